@@ -1,0 +1,4 @@
+-- Laws of the definitions of specs/.
+pub mod Splice
+pub mod Fixed
+pub mod Decimal

@@ -1,0 +1,4 @@
+pub mod All
+pub mod Splice
+pub mod Fixed
+pub mod Decimal

@@ -1,0 +1,4 @@
+// Numbers and bytes: fixed widths, decimal text, and writing into a lent buffer.
+pub mod decimal;
+pub mod fixed;
+pub mod put;
