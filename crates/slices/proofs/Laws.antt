@@ -1,0 +1,6 @@
+-- Laws of the definitions of specs/.
+pub mod Outcome
+pub mod Cover
+pub mod Record
+pub mod Refusals
+pub mod Scan

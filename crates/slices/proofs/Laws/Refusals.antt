@@ -1,0 +1,236 @@
+-- Laws of the refusals of a list: what is known of records and lists that are not refused, and the check, record by record.
+-- Assumes nothing.
+use Prim.Native.Nat.{ℕ, suc, _+_, _-_, _%_, _^_, _<_, _≤_}
+use native.Mathlib.Omega.{arith}
+use native.Mathlib.Decide.{ℕ-discrete}
+use native.Mathlib.Numerals.{add-one}
+use mathlib.Core.Path.{_≡_, refl, sym, ap, _∙_}
+use mathlib.Core.Logic.{_≢_, _↔_}
+use mathlib.Core.Bool.{Bool, true, false, cond, not, _&&_, _||_, false≢true}
+use mathlib.Core.List.{List, [], _∷_}
+use lib.Dec.{ltb, eqb}
+use lib.ListN.{length}
+use borrow.Author.Tests.{ltb-false, eqb-true, eqb-false, eq-eqb, ne-eqb, lt-ltb, le-ltb}
+use Rattle.codec.specs.All.{All}
+use Rattle.slices.specs.Limits.{recordSize, chunk, maxRecords}
+use Rattle.slices.specs.Record.{recordAt, recordsFrom, count, records, Fits}
+use Rattle.slices.specs.Passes.{Passes}
+use Rattle.slices.specs.Numbers as number
+use Rattle.slices.specs.Outcome.{Outcome, refused, done, refusal, Row, firstOf, NoneHolds}
+use Rattle.slices.specs.Refusals.{notWhole, tooMany, pastChunk, tooLarge, zerosWithSlice, pastSlice, recordRows, rowsFrom, listRows, checkOutcome, checked}
+use Rattle.slices.specs.Steps.{fault}
+use Rattle.slices.proofs.Laws.Outcome.{none-passes, done-none, stops, row-holds, row-passes}
+use Rattle.slices.specs.declared.Record.{Record}
+use Rattle.slices.specs.declared.Refusal.{Refusal}
+use Rattle.slices.specs.declared.Checked.the-variants.{Accepted, Refused}
+
+-- ---- one record
+
+-- a record passes exactly where none of its rows holds
+module _ (r : Record) where
+  zeros-sound : (a b c : Bool) → eqb (r .id) 0 ≡ a → eqb (r .size) 0 ≡ b → eqb (r .off) 0 ≡ c → (a && (not b || not c)) ≡ false
+      → r .id ≡ 0 → (r .size ≡ 0) × (r .off ≡ 0)
+  zeros-sound true true true ea eb ec h z = (eqb-true (r .size) 0 eb, eqb-true (r .off) 0 ec)
+  zeros-sound true true false ea eb ec h z = absurd (false≢true (sym h))
+  zeros-sound true false true ea eb ec h z = absurd (false≢true (sym h))
+  zeros-sound true false false ea eb ec h z = absurd (false≢true (sym h))
+  zeros-sound false b c ea eb ec h z = absurd (eqb-false (r .id) 0 ea z)
+
+  within-sound : (a b : Bool) → eqb (r .id) 0 ≡ a → ltb (r .size) (r .off + r .len) ≡ b → (not a && b) ≡ false
+      → r .id ≢ 0 → r .off + r .len ≤ r .size
+  within-sound true b ea eb h z = absurd (z (eqb-true (r .id) 0 ea))
+  within-sound false true ea eb h z = absurd (false≢true (sym h))
+  within-sound false false ea eb h z = ltb-false (r .size) (r .off + r .len) eb
+
+  pub none-pass : (at : ℕ) → NoneHolds (recordRows at r []) → Passes r
+  unfolding pastChunk tooLarge zerosWithSlice pastSlice
+  none-pass at h =
+      record {
+        inside = ltb-false chunk (r .pos + r .len) (h .0);
+        sized = ltb-false chunk (r .size) (h .1 .0);
+        zeros = zeros-sound (eqb (r .id) 0) (eqb (r .size) 0) (eqb (r .off) 0) refl refl refl (h .1 .1 .0);
+        within = within-sound (eqb (r .id) 0) (ltb (r .size) (r .off + r .len)) refl refl (h .1 .1 .1 .0);
+      }
+
+  zeros-none : Passes r → (a : Bool) → eqb (r .id) 0 ≡ a → (a && (not (eqb (r .size) 0) || not (eqb (r .off) 0))) ≡ false
+  zeros-none h true e =
+      let z = h .zeros (eqb-true (r .id) 0 e) in
+      rw (eq-eqb (r .size) 0 (z .0), eq-eqb (r .off) 0 (z .1))
+  zeros-none h false e = refl
+
+  within-none : Passes r → (a : Bool) → eqb (r .id) 0 ≡ a → (not a && ltb (r .size) (r .off + r .len)) ≡ false
+  within-none h true e = refl
+  within-none h false e = le-ltb (r .size) (r .off + r .len) (h .within (eqb-false (r .id) 0 e))
+
+  pub pass-none : (at : ℕ) → Passes r → NoneHolds (recordRows at r [])
+  unfolding pastChunk tooLarge zerosWithSlice pastSlice
+  pass-none at h =
+      (le-ltb chunk (r .pos + r .len) (h .inside), (le-ltb chunk (r .size) (h .sized), (zeros-none h (eqb (r .id) 0) refl, (within-none h (eqb (r .id) 0) refl, tt))))
+
+-- a passing record whose id is a number of 8 bytes is one of 24 bytes
+pub passes-fits : (r : Record) → Passes r → r .id < 2 ^ 64 → Fits r
+unfolding chunk
+passes-fits r h i = go (ℕ-discrete (r .id) 0)
+  where
+    go : Dec (r .id ≡ 0) → Fits r
+    go (yes z) = omega (arith, h .zeros z)
+    go (no z) = omega (arith, h .within z)
+
+-- ---- the number of a record's first refusal
+
+module _ (r : Record) where
+  pub fault-3 : chunk < r .pos + r .len → number.pastChunk ≡ fault r
+  unfolding fault pastChunk
+  fault-3 a = rw (lt-ltb chunk (r .pos + r .len) a)
+
+  module _ (a : r .pos + r .len ≤ chunk) where
+    pub fault-4 : chunk < r .size → number.tooLarge ≡ fault r
+    unfolding fault pastChunk tooLarge
+    fault-4 b = rw (le-ltb chunk (r .pos + r .len) a, lt-ltb chunk (r .size) b)
+
+    module _ (b : r .size ≤ chunk) where
+      module _ (z : r .id ≡ 0) where
+        pub fault-5-size : r .size ≢ 0 → number.zerosWithSlice ≡ fault r
+        unfolding fault pastChunk tooLarge zerosWithSlice
+        fault-5-size e = rw (le-ltb chunk (r .pos + r .len) a, le-ltb chunk (r .size) b, eq-eqb (r .id) 0 z, ne-eqb (r .size) 0 e)
+
+        pub fault-5-off : r .size ≡ 0 → r .off ≢ 0 → number.zerosWithSlice ≡ fault r
+        unfolding fault pastChunk tooLarge zerosWithSlice
+        fault-5-off e f = rw (le-ltb chunk (r .pos + r .len) a, le-ltb chunk (r .size) b, eq-eqb (r .id) 0 z, eq-eqb (r .size) 0 e, ne-eqb (r .off) 0 f)
+
+        pub fault-0-zeros : r .size ≡ 0 → r .off ≡ 0 → 0 ≡ fault r
+        unfolding fault pastChunk tooLarge zerosWithSlice pastSlice
+        fault-0-zeros e f = rw (le-ltb chunk (r .pos + r .len) a, le-ltb chunk (r .size) b, eq-eqb (r .id) 0 z, eq-eqb (r .size) 0 e, eq-eqb (r .off) 0 f)
+
+      module _ (z : r .id ≢ 0) where
+        pub fault-6 : r .size < r .off + r .len → number.pastSlice ≡ fault r
+        unfolding fault pastChunk tooLarge zerosWithSlice pastSlice
+        fault-6 e = rw (le-ltb chunk (r .pos + r .len) a, le-ltb chunk (r .size) b, ne-eqb (r .id) 0 z, lt-ltb (r .size) (r .off + r .len) e)
+
+        pub fault-0-slice : r .off + r .len ≤ r .size → 0 ≡ fault r
+        unfolding fault pastChunk tooLarge zerosWithSlice pastSlice
+        fault-0-slice e = rw (le-ltb chunk (r .pos + r .len) a, le-ltb chunk (r .size) b, ne-eqb (r .id) 0 z, le-ltb (r .size) (r .off + r .len) e)
+
+-- ---- the check, record by record
+
+-- what a record's rows give: its fault, or what follows
+fault-rows : {A : Type 0} (r : Record) (at : ℕ) (rest : List Row) (o : Outcome A)
+    → firstOf (recordRows at r rest) o ≡ cond (eqb (fault r) 0) (firstOf rest o) (refused (refusal (fault r) at))
+unfolding firstOf fault
+fault-rows r at rest o = go (pastChunk r) (tooLarge r) (zerosWithSlice r) (pastSlice r)
+  where
+    go : (a b c d : Bool)
+        → cond a (refused (refusal 3 at)) (cond b (refused (refusal 4 at)) (cond c (refused (refusal 5 at)) (cond d (refused (refusal 6 at)) (firstOf rest o))))
+        ≡ cond (eqb (cond a 3 (cond b 4 (cond c 5 (cond d 6 0)))) 0) (firstOf rest o) (refused (refusal (cond a 3 (cond b 4 (cond c 5 (cond d 6 0)))) at))
+    go true b c d = refl
+    go false true c d = refl
+    go false false true d = refl
+    go false false false true = refl
+    go false false false false = refl
+
+-- the check of n records, of which those before i are passed
+unfoldable pub checkFrom : List ℕ → ℕ → Outcome ℕ
+checkFrom bs i = firstOf (rowsFrom i (recordsFrom bs i (count bs - i))) (done (count bs))
+
+module _ (bs : List ℕ) where
+  pub check-1 : length bs % recordSize ≢ 0 → checkOutcome bs ≡ refused (refusal number.notWhole 0)
+  unfolding checkOutcome listRows notWhole
+  check-1 h = row-holds _ _ _ _ _ (rw (ne-eqb (length bs % recordSize) 0 h))
+
+  pub check-2 : length bs % recordSize ≡ 0 → maxRecords < count bs → checkOutcome bs ≡ refused (refusal number.tooMany 0)
+  unfolding checkOutcome listRows notWhole tooMany
+  check-2 h l = row-passes _ _ _ _ _ (rw (eq-eqb (length bs % recordSize) 0 h)) ∙ row-holds _ _ _ _ _ (lt-ltb maxRecords (count bs) l)
+
+  pub check-start : length bs % recordSize ≡ 0 → count bs ≤ maxRecords → checkOutcome bs ≡ checkFrom bs 0
+  unfolding checkOutcome listRows notWhole tooMany records checkFrom
+  check-start h l =
+      let k : count bs - 0 ≡ count bs = omega arith in
+      row-passes _ _ _ _ _ (rw (eq-eqb (length bs % recordSize) 0 h)) ∙ row-passes _ _ _ _ _ (le-ltb maxRecords (count bs) l) ∙ rw k
+
+  module _ (i : ℕ) where
+    pub check-next : i < count bs → fault (recordAt bs i) ≡ 0 → checkFrom bs i ≡ checkFrom bs (i + 1)
+    unfolding checkFrom rowsFrom recordsFrom
+    check-next h e =
+        let k : count bs - i ≡ suc (count bs - suc i) = omega arith in
+        rw (add-one, k, fault-rows (recordAt bs i) i, eq-eqb (fault (recordAt bs i)) 0 e)
+
+    pub check-here : i < count bs → fault (recordAt bs i) ≢ 0 → checkFrom bs i ≡ refused (refusal (fault (recordAt bs i)) i)
+    unfolding checkFrom rowsFrom recordsFrom
+    check-here h e =
+        let k : count bs - i ≡ suc (count bs - suc i) = omega arith in
+        rw (k, fault-rows (recordAt bs i) i, ne-eqb (fault (recordAt bs i)) 0 e)
+
+    pub check-end : count bs ≤ i → checkFrom bs i ≡ done (count bs)
+    unfolding checkFrom rowsFrom recordsFrom firstOf
+    check-end h =
+        let k : count bs - i ≡ 0 = omega arith in
+        rw k
+
+-- ---- a list that is accepted
+
+rows-pass : (at : ℕ) (rs : List Record) → NoneHolds (rowsFrom at rs) → All Passes rs
+unfolding rowsFrom
+rows-pass at [] h = tt
+rows-pass at (r ∷ rs) h =
+    (none-pass r at (h .0, (h .1 .0, (h .1 .1 .0, (h .1 .1 .1 .0, tt)))), rows-pass (suc at) rs (h .1 .1 .1 .1))
+
+pass-rows : (at : ℕ) (rs : List Record) → All Passes rs → NoneHolds (rowsFrom at rs)
+unfolding rowsFrom
+pass-rows at [] h = tt
+pass-rows at (r ∷ rs) h =
+    let n = pass-none r at (h .0) in
+    (n .0, (n .1 .0, (n .1 .1 .0, (n .1 .1 .1 .0, pass-rows (suc at) rs (h .1)))))
+
+-- a list is accepted exactly where it has whole records, not too many of them, and each passes 3 to 6
+pub record Accepts (bs : List ℕ) : Type 0 where
+  pub whole : length bs % recordSize ≡ 0
+  pub few : count bs ≤ maxRecords
+  pub pass : All Passes (records bs)
+
+none-accepts : (bs : List ℕ) → NoneHolds (listRows bs) → Accepts bs
+unfolding listRows notWhole tooMany
+none-accepts bs h =
+    record {
+      whole = not-false (eqb (length bs % recordSize) 0) refl (h .0);
+      few = ltb-false maxRecords (count bs) (h .1 .0);
+      pass = rows-pass 0 (records bs) (h .1 .1);
+    }
+  where
+    not-false : (t : Bool) → eqb (length bs % recordSize) 0 ≡ t → not t ≡ false → length bs % recordSize ≡ 0
+    not-false true e g = eqb-true (length bs % recordSize) 0 e
+    not-false false e g = absurd (false≢true (sym g))
+
+accepts-none : (bs : List ℕ) → Accepts bs → NoneHolds (listRows bs)
+unfolding listRows notWhole tooMany
+accepts-none bs a =
+    (rw (eq-eqb (length bs % recordSize) 0 (a .whole)), (le-ltb maxRecords (count bs) (a .few), pass-rows 0 (records bs) (a .pass)))
+
+pub accepted-exactly : (bs : List ℕ) → (checkOutcome bs ≡ done (count bs)) ↔ Accepts bs
+unfolding checkOutcome
+accepted-exactly bs =
+    ((λ h. none-accepts bs (done-none (count bs) (listRows bs) (count bs) h)), (λ a. none-passes (listRows bs) (done (count bs)) (accepts-none bs a)))
+
+-- ---- what the check's answer tells a call that makes it
+
+checked-done : (o : Outcome ℕ) (n : ℕ) → checked o ≡ Accepted n → o ≡ done n
+unfolding checked
+checked-done (refused r) n h = let z : _≡_ {A = ℕ} 0 1 = cc in absurd (omega arith)
+checked-done (done m) n h = let e : m ≡ n = cc in ap done e
+
+checked-refused : (o : Outcome ℕ) (r : Refusal) → checked o ≡ Refused r → o ≡ refused r
+unfolding checked
+checked-refused (refused q) r h = let e : q ≡ r = cc in ap refused e
+checked-refused (done m) r h = let z : _≡_ {A = ℕ} 0 1 = cc in absurd (omega arith)
+
+module _ (bs : List ℕ) where
+  pub check-accepts : (n : ℕ) → checked (checkOutcome bs) ≡ Accepted n → Accepts bs
+  unfolding checkOutcome
+  check-accepts n h = none-accepts bs (done-none (count bs) (listRows bs) n (checked-done (checkOutcome bs) n h))
+
+  -- an accepted list's rows let through what follows them, and a refused list's do not
+  pub check-lets : {A : Type 0} (o : Outcome A) (n : ℕ) → checked (checkOutcome bs) ≡ Accepted n → firstOf (listRows bs) o ≡ o
+  check-lets o n h = none-passes (listRows bs) o (accepts-none bs (check-accepts n h))
+
+  pub check-stops : {A : Type 0} (o : Outcome A) (r : Refusal) → checked (checkOutcome bs) ≡ Refused r → firstOf (listRows bs) o ≡ refused r
+  unfolding checkOutcome
+  check-stops o r h = stops (count bs) (listRows bs) o r (checked-refused (checkOutcome bs) r h)

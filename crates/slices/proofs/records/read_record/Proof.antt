@@ -1,0 +1,51 @@
+-- `slices::records::read_record` meets its contract: each field is the number at its place. Assumes nothing.
+use Rattle.slices.specs.Record.{recordAt, decode}
+use borrow.Author.Needs.{needs}
+use Rattle.slices.proofs.records.read_record.Statement.{statement}
+use Rattle.slices.proofs.records.read_record.Tie as tie
+
+mul-at : tie.Need-mul-at
+mul-at c = search needs
+
+read-pos-requires : tie.Need-read-pos-requires
+read-pos-requires c κs = search needs
+
+add-read-be64 : tie.Need-add-read-be64
+add-read-be64 c = search needs
+
+read-be64-requires : tie.Need-read-be64-requires
+read-be64-requires c κs = search needs
+
+add-read-be32 : tie.Need-add-read-be32
+add-read-be32 c = search needs
+
+read-be32-requires : tie.Need-read-be32-requires
+read-be32-requires c κs = search needs
+
+add-read-be32-2 : tie.Need-add-read-be32-2
+add-read-be32-2 c = search needs
+
+read-be32-requires-2 : tie.Need-read-be32-requires-2
+read-be32-requires-2 c κs = search needs
+
+read-len-requires : tie.Need-read-len-requires
+read-len-requires c κs = search needs
+
+returns : tie.Need-returns
+unfolding recordAt decode
+returns c = cc
+
+pub read-record-spec : {M : Type 1} → statement M
+read-record-spec =
+    tie.close
+    (tie.spec
+    mul-at
+    read-pos-requires
+    add-read-be64
+    read-be64-requires
+    add-read-be32
+    read-be32-requires
+    add-read-be32-2
+    read-be32-requires-2
+    read-len-requires
+    returns)
