@@ -4,3 +4,4 @@ pub mod Cover
 pub mod Record
 pub mod Refusals
 pub mod Scan
+pub mod Tags

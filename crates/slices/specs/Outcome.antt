@@ -42,6 +42,10 @@ firstOf (r ∷ rows) o = cond (r .test) (refused (r .gives)) (firstOf rows o)
 abbrev pub tooShort : List ℕ → ℕ → Row
 tooShort bs room = row (ltb room (length bs)) shortBuffer 0
 
+-- the bytes, delivered into a buffer of `room` bytes
+abbrev pub delivered : List ℕ → ℕ → Outcome (List ℕ)
+delivered bs room = firstOf (tooShort bs room ∷ []) (done bs)
+
 -- no row of the table holds
 abbrev pub NoneHolds : List Row → Type 0
 NoneHolds rows = All (λ (r : Row). r .test ≡ false) rows

@@ -1,6 +1,6 @@
 -- Laws of outcomes: each refusal is given exactly in its case, and what calls answer, case by case. Assumes nothing.
 use Prim.Native.Nat.{ℕ, _<_, _≤_}
-use mathlib.Core.Path.{_≡_, refl, ap, _∙_}
+use mathlib.Core.Path.{_≡_, refl, sym, ap, _∙_}
 use mathlib.Core.Bool.{Bool, true, false, cond}
 use mathlib.Core.Logic.{_↔_}
 use mathlib.Core.List.{List, [], _∷_, _++_}
@@ -9,8 +9,9 @@ use lib.ListN.{length}
 use borrow.Author.Tests.{lt-ltb, le-ltb}
 use Rattle.codec.specs.Splice.{splice}
 use Rattle.slices.specs.Numbers.{shortBuffer}
-use Rattle.slices.specs.Outcome.{Outcome, refused, done, refusal, Row, row, firstOf, tooShort, NoneHolds, Given, answer, buffer, Answers}
+use Rattle.slices.specs.Outcome.{Outcome, refused, done, refusal, Row, row, firstOf, delivered, NoneHolds, Given, answer, buffer, Answers}
 use Rattle.slices.specs.declared.Refusal.{Refusal}
+use Rattle.slices.specs.declared.Answer.{Answer}
 use Rattle.slices.specs.declared.Answer.the-variants.{Wrote, Refused}
 
 -- ---- the first row that holds
@@ -94,16 +95,23 @@ module _ {A : Type 0} (t : Bool) (n p : ℕ) (o : Outcome A) where
 -- ---- calls that write
 
 -- the bytes, or refusal 12 where the buffer is too short for them
-pub short-refused : (bs : List ℕ) (room : ℕ) → room < length bs → firstOf (tooShort bs room ∷ []) (done bs) ≡ refused (refusal shortBuffer 0)
+pub short-refused : (bs : List ℕ) (room : ℕ) → room < length bs → delivered bs room ≡ refused (refusal shortBuffer 0)
 short-refused bs room h = row-holds _ _ _ (done bs) [] (lt-ltb room (length bs) h)
 
-pub short-done : (bs : List ℕ) (room : ℕ) → length bs ≤ room → firstOf (tooShort bs room ∷ []) (done bs) ≡ done bs
+pub short-done : (bs : List ℕ) (room : ℕ) → length bs ≤ room → delivered bs room ≡ done bs
 unfolding firstOf
 short-done bs room h = row-passes _ _ _ (done bs) [] (le-ltb room (length bs) h)
 
 pub answers-refused : (o : Outcome (List ℕ)) (r : Refusal) (out : List ℕ) → o ≡ refused r → Answers o out (Refused r) out
 unfolding answer buffer
 answers-refused o r out e = rw e (record { answers = refl; leaves = refl })
+
+-- the same for a refusal that a call made
+pub answers-refusal : (o : Outcome (List ℕ)) (r q : Refusal) (out : List ℕ) → o ≡ refused q → r ≡ q → Answers o out (Refused r) out
+answers-refusal o r q out e h = answers-refused o r out (e ∙ ap refused (sym h))
+
+pub answers-as : (o p : Outcome (List ℕ)) (out : List ℕ) (a : Answer) (after : List ℕ) → o ≡ p → Answers p out a after → Answers o out a after
+answers-as o p out a after e h = rw e h
 
 pub answers-done : (o : Outcome (List ℕ)) (bs out after : List ℕ) (n : ℕ) → o ≡ done bs → length bs ≡ n → after ≡ splice out 0 bs → Answers o out (Wrote n) after
 unfolding answer buffer

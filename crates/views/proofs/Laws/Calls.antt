@@ -1,0 +1,80 @@
+-- What `view` and `tidy` answer, case by case, and exactly when each refusal is given. Assumes nothing.
+use Prim.Native.Nat.{ℕ, _<_, _≤_}
+use mathlib.Core.Path.{_≡_, _∙_}
+use mathlib.Core.Bool.{true, false}
+use mathlib.Core.Logic.{_↔_}
+use mathlib.Core.List.{List, _++_}
+use lib.ListN.{length}
+use borrow.Author.Tests.{lt-ltb, le-ltb}
+use Rattle.slices.specs.Limits.{chunk}
+use Rattle.slices.specs.Record.{records, encodeAll}
+use Rattle.slices.specs.Numbers as number
+use Rattle.slices.specs.Outcome.{Outcome, refused, done, refusal, Row, firstOf, delivered, NoneHolds, Given}
+use Rattle.slices.specs.Refusals.{listRows, checkOutcome, checked}
+use Rattle.slices.proofs.Laws.Outcome.{firstOf-append, row-holds, row-passes, refused-exactly, answered-exactly}
+use Rattle.slices.proofs.Laws.Refusals.{check-lets, check-stops}
+use Rattle.views.specs.View.{tidiedBytes}
+use Rattle.views.specs.Calls.{chunkTooLong, maxTidied, tidiedTooLong, viewBytes, viewRows, viewOutcome, tidyRows, tidyOutcome}
+use Rattle.views.specs.Steps.{viewFrom}
+use Rattle.views.proofs.Laws.ViewFrom.{viewFrom-view, viewFrom-tidied}
+use Rattle.slices.specs.declared.Refusal.{Refusal}
+use Rattle.slices.specs.declared.Checked.the-variants.{Accepted, Refused}
+
+-- a refused list's rows refuse, an accepted one's let through the rows behind them
+module _ {A : Type 0} (bs : List ℕ) (rest : List Row) (o : Outcome A) where
+  pub list-stops : (r : Refusal) → checked (checkOutcome bs) ≡ Refused r → firstOf (listRows bs ++ rest) o ≡ refused r
+  list-stops r h = firstOf-append (listRows bs) rest o ∙ check-stops bs (firstOf rest o) r h
+
+  pub list-lets : (n : ℕ) → checked (checkOutcome bs) ≡ Accepted n → firstOf (listRows bs ++ rest) o ≡ firstOf rest o
+  list-lets n h = firstOf-append (listRows bs) rest o ∙ check-lets bs (firstOf rest o) n h
+
+-- ---- view
+
+module _ (bs : List ℕ) (l room : ℕ) where
+  pub view-7 : chunk < l → viewOutcome bs l room ≡ refused (refusal number.chunkTooLong 0)
+  unfolding viewOutcome viewRows chunkTooLong
+  view-7 h = row-holds _ _ _ _ _ (lt-ltb chunk l h)
+
+  module _ (h : l ≤ chunk) where
+    pub view-refused : (r : Refusal) → checked (checkOutcome bs) ≡ Refused r → viewOutcome bs l room ≡ refused r
+    unfolding viewOutcome viewRows chunkTooLong
+    view-refused r e = row-passes _ _ _ _ _ (le-ltb chunk l h) ∙ list-stops bs _ _ r e
+
+    pub view-accepted : (n : ℕ) → checked (checkOutcome bs) ≡ Accepted n → viewOutcome bs l room ≡ delivered (encodeAll (viewFrom true (records bs) 0 l)) room
+    unfolding viewOutcome viewRows chunkTooLong viewBytes
+    view-accepted n e = row-passes _ _ _ _ _ (le-ltb chunk l h) ∙ list-lets bs _ _ n e ∙ rw (viewFrom-view (records bs) l)
+
+  pub view-refused-exactly : (r : Refusal) → (viewOutcome bs l room ≡ refused r) ↔ Given (viewRows bs l room) r
+  unfolding viewOutcome
+  view-refused-exactly r = refused-exactly (viewBytes bs l) (viewRows bs l room) r
+
+  pub view-answered-exactly : (viewOutcome bs l room ≡ done (viewBytes bs l)) ↔ NoneHolds (viewRows bs l room)
+  unfolding viewOutcome
+  view-answered-exactly = answered-exactly (viewBytes bs l) (viewRows bs l room)
+
+-- ---- tidy
+
+module _ (bs : List ℕ) (room : ℕ) where
+  pub tidy-refused : (r : Refusal) → checked (checkOutcome bs) ≡ Refused r → tidyOutcome bs room ≡ refused r
+  unfolding tidyOutcome tidyRows
+  tidy-refused r e = list-stops bs _ _ r e
+
+  module _ (n : ℕ) (e : checked (checkOutcome bs) ≡ Accepted n) where
+    pub tidy-11 : maxTidied < length (viewFrom false (records bs) 0 chunk) → tidyOutcome bs room ≡ refused (refusal number.tidiedTooLong 0)
+    unfolding tidyOutcome tidyRows tidiedTooLong
+    tidy-11 h = list-lets bs _ _ n e ∙ row-holds _ _ _ _ _ (rw (← viewFrom-tidied (records bs)) (lt-ltb maxTidied (length (viewFrom false (records bs) 0 chunk)) h))
+
+    pub tidy-accepted : length (viewFrom false (records bs) 0 chunk) ≤ maxTidied → tidyOutcome bs room ≡ delivered (encodeAll (viewFrom false (records bs) 0 chunk)) room
+    unfolding tidyOutcome tidyRows tidiedTooLong tidiedBytes
+    tidy-accepted h =
+        list-lets bs _ _ n e
+        ∙ row-passes _ _ _ _ _ (rw (← viewFrom-tidied (records bs)) (le-ltb maxTidied (length (viewFrom false (records bs) 0 chunk)) h))
+        ∙ rw (viewFrom-tidied (records bs))
+
+  pub tidy-refused-exactly : (r : Refusal) → (tidyOutcome bs room ≡ refused r) ↔ Given (tidyRows bs room) r
+  unfolding tidyOutcome
+  tidy-refused-exactly r = refused-exactly (tidiedBytes (records bs)) (tidyRows bs room) r
+
+  pub tidy-answered-exactly : (tidyOutcome bs room ≡ done (tidiedBytes (records bs))) ↔ NoneHolds (tidyRows bs room)
+  unfolding tidyOutcome
+  tidy-answered-exactly = answered-exactly (tidiedBytes (records bs)) (tidyRows bs room)

@@ -1,0 +1,46 @@
+-- What the calls `view` and `tidy` are to do: their refusals, in the order of paper 01, and their answers. Assumes nothing.
+use Prim.Native.Nat.{ℕ}
+use mathlib.Core.Bool.{Bool}
+use mathlib.Core.List.{List, [], _∷_, _++_}
+use lib.Dec.{ltb}
+use lib.ListN.{length}
+use Rattle.slices.specs.Limits.{chunk}
+use Rattle.slices.specs.Record.{records, encodeAll}
+use Rattle.slices.specs.Numbers as number
+use Rattle.slices.specs.Outcome.{Outcome, done, Row, row, firstOf, tooShort}
+use Rattle.slices.specs.Refusals.{listRows}
+use Rattle.views.specs.View.{view, tidied, tidiedBytes}
+
+-- 7: chunk length above 64 MiB
+unfoldable pub chunkTooLong : ℕ → Bool
+chunkTooLong l = ltb chunk l
+
+-- the most records of a tidied list (refusal 11)
+abbrev pub maxTidied : ℕ
+maxTidied = 1024
+
+-- 11: tidied list above 1,024 records
+unfoldable pub tidiedTooLong : List ℕ → Bool
+tidiedTooLong bs = ltb maxTidied (length (tidied (records bs)))
+
+-- ---- view
+
+-- the bytes of a list's view
+unfoldable pub viewBytes : List ℕ → ℕ → List ℕ
+viewBytes bs l = encodeAll (view (records bs) l)
+
+-- 7, 1, 2, 3 to 6, 12; `room` is the length of the lent buffer
+unfoldable pub viewRows : List ℕ → ℕ → ℕ → List Row
+viewRows bs l room = row (chunkTooLong l) number.chunkTooLong 0 ∷ (listRows bs ++ (tooShort (viewBytes bs l) room ∷ []))
+
+unfoldable pub viewOutcome : List ℕ → ℕ → ℕ → Outcome (List ℕ)
+viewOutcome bs l room = firstOf (viewRows bs l room) (done (viewBytes bs l))
+
+-- ---- tidy
+
+-- 1, 2, 3 to 6, 11, 12
+unfoldable pub tidyRows : List ℕ → ℕ → List Row
+tidyRows bs room = listRows bs ++ (row (tidiedTooLong bs) number.tidiedTooLong 0 ∷ tooShort (tidiedBytes (records bs)) room ∷ [])
+
+unfoldable pub tidyOutcome : List ℕ → ℕ → Outcome (List ℕ)
+tidyOutcome bs room = firstOf (tidyRows bs room) (done (tidiedBytes (records bs)))
