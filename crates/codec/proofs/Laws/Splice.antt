@@ -82,3 +82,26 @@ module _ (out : List ℕ) (at : ℕ) where
       let s₄ = splice-then out at (a ++ (b ++ (c ++ d))) l e n h in
       let s : splice out at ((a ++ (b ++ (c ++ d))) ++ e) ≡ splice out at (a ++ (b ++ (c ++ (d ++ e)))) = ap (splice out at) (simp append-assoc) in
       cc
+
+-- what is put at the front of a buffer stands there
+pub take-splice : (out bs : List ℕ) (n : ℕ) → n ≡ length bs → take n (splice out 0 bs) ≡ bs
+unfolding splice
+take-splice out bs n h = take-at bs (drop (0 + length bs) out) n (sym h)
+
+-- what a step that puts bytes leaves: o is the buffer `out` with bs from `at` on, and e the place after them
+pub record Put (out : List ℕ) (at : ℕ) (bs o : List ℕ) (e : ℕ) : Type 0 where
+  pub ends : e ≡ at + length bs
+  pub holds : o ≡ splice out at bs
+
+-- a step behind another
+pub put-then : {out o₁ o₂ : List ℕ} {at e f : ℕ} (a b : List ℕ) → Put out at a o₁ e → Put o₁ e b o₂ f → e ≤ length out → Put out at (a ++ b) o₂ f
+put-then {out} {o₁} {o₂} {at} {e} {f} a b p q h =
+    let l : at + length a ≤ length out = omega (arith, p .ends) in
+    let s = splice-append out at a l b in
+    record {
+      ends = q .ends ∙ rw (p .ends, length-append) (omega arith);
+      holds = q .holds ∙ rw (p .holds, p .ends) s;
+    }
+
+pub put-as : {out o : List ℕ} {at e : ℕ} (a b : List ℕ) → a ≡ b → Put out at a o e → Put out at b o e
+put-as a b h p = rw (← h) p

@@ -5,11 +5,13 @@ use mathlib.Core.Bool.{Bool, true, false, cond}
 use mathlib.Core.Logic.{_↔_}
 use mathlib.Core.List.{List, [], _∷_, _++_}
 use native.Mathlib.Omega.{arith}
-use lib.ListN.{length}
-use borrow.Author.Tests.{lt-ltb, le-ltb}
+use lib.ListN.{length, take}
+use borrow.Author.Tests.{lt-ltb, le-ltb, ltb-false}
+use lib.Dec.{ltb}
 use Rattle.codec.specs.Splice.{splice}
+use Rattle.codec.proofs.Laws.Splice.{take-splice}
 use Rattle.slices.specs.Numbers.{shortBuffer}
-use Rattle.slices.specs.Outcome.{Outcome, refused, done, refusal, Row, row, firstOf, delivered, NoneHolds, Given, answer, buffer, Answers}
+use Rattle.slices.specs.Outcome.{Outcome, refused, done, refusal, Row, row, firstOf, delivered, tooShort, NoneHolds, Given, answer, buffer, Answers}
 use Rattle.slices.specs.declared.Refusal.{Refusal}
 use Rattle.slices.specs.declared.Answer.{Answer}
 use Rattle.slices.specs.declared.Answer.the-variants.{Wrote, Refused}
@@ -116,3 +118,37 @@ answers-as o p out a after e h = rw e h
 pub answers-done : (o : Outcome (List ℕ)) (bs out after : List ℕ) (n : ℕ) → o ≡ done bs → length bs ≡ n → after ≡ splice out 0 bs → Answers o out (Wrote n) after
 unfolding answer buffer
 answers-done o bs out after n e h a = rw e (record { answers = rw h; leaves = a })
+
+-- ---- what an answer tells
+
+pub said-refused : (o : Outcome (List ℕ)) (before after : List ℕ) (r : Refusal) → Answers o before (Refused r) after → o ≡ refused r
+unfolding answer
+said-refused (refused q) before after r a = let e : q ≡ r = cc (a .answers) in ap refused e
+said-refused (done bs) before after r a = let z : _≡_ {A = ℕ} 0 1 = cc (a .answers) in absurd (omega arith)
+
+-- the bytes that a call wrote: as many as it says, at the front of the buffer
+pub record Written (o : Outcome (List ℕ)) (n : ℕ) (after : List ℕ) : Type 0 where
+  pub bytes : List ℕ
+  pub outcome : o ≡ done bytes
+  pub counted : n ≡ length bytes
+  pub front : take n after ≡ bytes
+
+pub said-wrote : (o : Outcome (List ℕ)) (before after : List ℕ) (n : ℕ) → Answers o before (Wrote n) after → Written o n after
+unfolding answer buffer
+said-wrote (refused q) before after n a = let z : _≡_ {A = ℕ} 0 1 = cc (a .answers) in absurd (omega arith)
+said-wrote (done bs) before after n a =
+    let e : n ≡ length bs = cc (a .answers) in
+    record { bytes = bs; outcome = refl; counted = e; front = ap (take n) (a .leaves) ∙ take-splice before bs n e }
+
+-- a table that ends with refusal 12 lets through only what the buffer has room for
+pub done-fits : (rows : List Row) (bs cs : List ℕ) (room : ℕ) → firstOf (rows ++ (tooShort bs room ∷ [])) (done bs) ≡ done cs
+    → (cs ≡ bs) × (length cs ≤ room)
+done-fits rows bs cs room h =
+    let n = done-none bs (rows ++ (tooShort bs room ∷ [])) cs h in
+    let e : done bs ≡ done cs = sym (none-passes (rows ++ (tooShort bs room ∷ [])) (done bs) n) ∙ h in
+    let q : cs ≡ bs = cc in
+    (q, rw q (ltb-false room (length bs) (last rows n)))
+  where
+    last : (xs : List Row) → NoneHolds (xs ++ (tooShort bs room ∷ [])) → ltb room (length bs) ≡ false
+    last [] k = k .0
+    last (x ∷ xs) k = last xs (k .1)

@@ -3,15 +3,15 @@ use Prim.Native.Nat.{ℕ, _<_, _≤_}
 use mathlib.Core.Path.{_≡_, _∙_}
 use mathlib.Core.Bool.{true, false}
 use mathlib.Core.Logic.{_↔_}
-use mathlib.Core.List.{List, _++_}
+use mathlib.Core.List.{List, _∷_, _++_}
 use lib.ListN.{length}
 use borrow.Author.Tests.{lt-ltb, le-ltb}
 use Rattle.slices.specs.Limits.{chunk}
 use Rattle.slices.specs.Record.{records, encodeAll}
 use Rattle.slices.specs.Numbers as number
-use Rattle.slices.specs.Outcome.{Outcome, refused, done, refusal, Row, firstOf, delivered, NoneHolds, Given}
+use Rattle.slices.specs.Outcome.{Outcome, refused, done, refusal, Row, row, firstOf, delivered, NoneHolds, Given}
 use Rattle.slices.specs.Refusals.{listRows, checkOutcome, checked}
-use Rattle.slices.proofs.Laws.Outcome.{firstOf-append, row-holds, row-passes, refused-exactly, answered-exactly}
+use Rattle.slices.proofs.Laws.Outcome.{firstOf-append, row-holds, row-passes, done-fits, refused-exactly, answered-exactly}
 use Rattle.slices.proofs.Laws.Refusals.{check-lets, check-stops}
 use Rattle.views.specs.View.{tidiedBytes}
 use Rattle.views.specs.Calls.{chunkTooLong, maxTidied, tidiedTooLong, viewBytes, viewRows, viewOutcome, tidyRows, tidyOutcome}
@@ -43,6 +43,11 @@ module _ (bs : List ℕ) (l room : ℕ) where
     pub view-accepted : (n : ℕ) → checked (checkOutcome bs) ≡ Accepted n → viewOutcome bs l room ≡ delivered (encodeAll (viewFrom true (records bs) 0 l)) room
     unfolding viewOutcome viewRows chunkTooLong viewBytes
     view-accepted n e = row-passes _ _ _ _ _ (le-ltb chunk l h) ∙ list-lets bs _ _ n e ∙ rw (viewFrom-view (records bs) l)
+
+  -- a view that is written is the list's, and fits its buffer
+  pub view-fits : (vs : List ℕ) → viewOutcome bs l room ≡ done vs → (vs ≡ viewBytes bs l) × (length vs ≤ room)
+  unfolding viewOutcome viewRows
+  view-fits vs h = done-fits (row (chunkTooLong l) number.chunkTooLong 0 ∷ listRows bs) (viewBytes bs l) vs room h
 
   pub view-refused-exactly : (r : Refusal) → (viewOutcome bs l room ≡ refused r) ↔ Given (viewRows bs l room) r
   unfolding viewOutcome

@@ -1,0 +1,45 @@
+-- `listing::lines::put_field` meets its contract: the number's digits, and the byte behind them. Assumes nothing.
+use native.Mathlib.Omega.{arith}
+use mathlib.Core.Path.{refl}
+use mathlib.Core.List.{[], _∷_}
+use denote.Ref.{now}
+use Rattle.codec.specs.Decimal.{decimal}
+use Rattle.listing.specs.Listing.{field}
+use Rattle.codec.proofs.Laws.Splice.{Put, put-then, splice-one}
+use borrow.Author.Needs.{needs}
+use Rattle.listing.proofs.lines.put_field.Statement.{statement}
+use Rattle.listing.proofs.lines.put_field.Tie as tie
+use Rattle.listing.proofs.lines.put_field.Reads as reads
+use Rattle.listing.proofs.lines.put_field.Lts as lts
+use Rattle.codec.proofs.decimal.put_decimal.Reads as put-decimal-reads
+
+-- src/lines.rt:23:9
+put-decimal-requires : tie.Need-put-decimal-requires
+put-decimal-requires c κs = search needs
+
+-- src/lines.rt:24:5
+slice-write-out : tie.Need-slice-write-out
+slice-write-out c = search needs
+
+-- src/lines.rt:25:5
+add-result : tie.Need-add-result
+add-result c = search needs
+
+-- src/lines.rt:19:1
+same-length : tie.Need-same-length
+same-length c = search needs
+
+-- src/lines.rt:19:1
+returns : tie.Need-returns
+unfolding field
+returns c =
+    let put = c .before .before in
+    let a = put .before .before .before .args in
+    let d : Put (now (a .out)) (a .at) (decimal (a .n)) _ _ = record { ends = put .put-decimal .ensures .0; holds = put .put-decimal .ensures .2 } in
+    let s : Put (put .put-decimal .last .0) (put .put-decimal .result) (a .after ∷ []) _ _ = record { ends = refl; holds = splice-one (put .put-decimal .last .0) (put .put-decimal .result) (a .after) (omega arith) } in
+    let both = put-then (decimal (a .n)) (a .after ∷ []) d s (omega arith) in
+    (both .ends, omega arith, both .holds)
+
+pub put-field-spec : {M : Type 1} → statement M
+put-field-spec =
+    tie.close (tie.spec put-decimal-requires slice-write-out add-result same-length returns)

@@ -1,0 +1,93 @@
+-- `listing::lines::put_lines` meets its contract. The invariant: the lines of the first i records are put. Assumes nothing.
+use Prim.Native.Nat.{_+_, _-_, _*_, _/_, _≤_, zero-le}
+use native.Mathlib.Omega.{arith}
+use native.Mathlib.Nat.{add-zero}
+use native.Mathlib.Numerals.{add-one}
+use mathlib.Core.Path.{_≡_, refl, sym}
+use mathlib.Core.List.{flatMap}
+use lib.ListN.{length}
+use denote.Ref.{now}
+use Rattle.slices.specs.Limits.{recordSize}
+use Rattle.slices.specs.Record.{recordAt, recordsFrom, records, count}
+use Rattle.listing.specs.Listing.{line, lines}
+use Rattle.listing.specs.Calls.{lineRoom}
+use Rattle.listing.proofs.Laws.Lines.{lines-more}
+use Rattle.codec.proofs.Laws.Splice.{Put, put-then, put-as, splice-nil}
+use Rattle.listing.proofs.lines.put_lines.Statement.{statement}
+use Rattle.listing.proofs.lines.put_lines.Tie as tie
+use Rattle.listing.proofs.lines.put_lines.Reads as reads
+use Rattle.listing.proofs.lines.put_lines.Lts as lts
+use Rattle.listing.proofs.lines.put_line.Reads as put-line-reads
+use Rattle.slices.proofs.records.read_record.Reads as read-record-reads
+
+abbrev Inv-loop : tie.InvT-loop
+Inv-loop out₀ start view n at₀ i₀ out at i = (i ≤ n) × (length out ≡ length out₀) × (at ≤ start + i * lineRoom) × Put out₀ start (lines (recordsFrom view 0 i)) out at
+
+abbrev μ-loop : tie.MeasureT-loop
+μ-loop out₀ start view n at₀ i₀ out at i = n - i
+
+-- src/lines.rt:58:5
+loop-holds : tie.Need-loop-holds Inv-loop μ-loop
+unfolding recordsFrom lines flatMap
+loop-holds c = (zero-le, refl, omega arith, record { ends = sym (add-zero _); holds = sym (splice-nil _ _) })
+
+-- src/lines.rt:59:32
+read-record-requires : tie.Need-read-record-requires Inv-loop μ-loop
+read-record-requires c κs = omega arith
+
+-- src/lines.rt:59:9
+put-line-requires : tie.Need-put-line-requires Inv-loop μ-loop
+put-line-requires c κs = omega arith
+
+-- src/lines.rt:60:9
+add-i : tie.Need-add-i Inv-loop μ-loop
+add-i c = omega arith
+
+-- src/lines.rt:58:5
+loop-less : tie.Need-loop-less Inv-loop μ-loop
+loop-less c = omega arith
+
+-- src/lines.rt:58:5
+loop-again : tie.Need-loop-again Inv-loop μ-loop
+loop-again c =
+    let put = c .before .before in
+    let read = put .before in
+    let l = read .before .before .before in
+    let a = l .before .before .before .args in
+    let s = lines (recordsFrom (now (a .view)) 0 (l .loop .i)) in
+    let p : Put (l .loop .out) (l .loop .at) (line (recordAt (now (a .view)) (l .loop .i))) (put .put-line .last .0) (put .put-line .result) =
+    rw (← read .read-record .ensures) (record { ends = put .put-line .ensures .0; holds = put .put-line .ensures .2 }) in
+    let q = put-then s (line (recordAt (now (a .view)) (l .loop .i))) (l .loop .inv .3) p (omega arith) in (
+      omega arith,
+      omega arith,
+      omega arith,
+      rw (add-one, lines-more (now (a .view)) (l .loop .i)) q,
+    )
+
+-- src/lines.rt:51:1
+same-length : tie.Need-same-length Inv-loop μ-loop
+same-length c = c .before .loop .inv .1
+
+-- src/lines.rt:51:1
+returns : tie.Need-returns Inv-loop μ-loop
+unfolding records count
+returns c =
+    let l = c .before in
+    let e : l .loop .i ≡ length (now (l .before .before .before .args .view)) / recordSize = omega arith in
+    let p = rw e at (l .loop .inv .3) in
+    (p .ends, p .holds)
+
+pub put-lines-spec : {M : Type 1} → statement M
+put-lines-spec =
+    tie.close
+    (tie.spec
+    Inv-loop
+    μ-loop
+    loop-holds
+    read-record-requires
+    put-line-requires
+    add-i
+    loop-less
+    loop-again
+    same-length
+    returns)

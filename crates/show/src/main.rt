@@ -1,0 +1,67 @@
+// Prints the view of the slice list in the file list.bin, or why there is none.
+use libc::STDOUT_FILENO;
+use slices::Answer;
+ghost use lib.ListN.{length};
+ghost use Rattle.show.specs.Input.{Within};
+
+// What reading a file gave: how many bytes it has, that it has more than the buffer holds, or that it could not be read.
+pub enum Input {
+    Whole(usize),
+    Longer,
+    Failed,
+}
+
+// Reads a whole file into a buffer, and asks for one byte more once the buffer is full.
+fn read_file(fd: i32, buf: &mut [u8]) -> Input
+    ensures { λ r. ⌜ Within (length (now (buf .exit))) r ⌝ }
+{
+    let mut done = 0;
+    while done < buf.len() {
+        let got = libc::read(fd, &mut buf[done..]);
+        if got < 0 {
+            return Input::Failed;
+        }
+        let n = io::count(got, &buf[done..]);
+        if n == 0 {
+            return Input::Whole(done);
+        }
+        done += n;
+    }
+    let mut more = [0u8; 1];
+    let got = libc::read(fd, &mut more);
+    if got < 0 {
+        return Input::Failed;
+    }
+    if got == 0 {
+        return Input::Whole(done);
+    }
+    Input::Longer
+}
+
+// Prints the listing of a list.
+fn print(list: &[u8], longer: bool) {
+    let mut text = [0u8; listing::TEXT];
+    if let Answer::Wrote(n) = listing::text(list, longer, &mut text) {
+        if n <= text.len() {
+            io::write_all(STDOUT_FILENO, &text[..n]);
+        }
+    }
+}
+
+fn main() {
+    let fd = os::open_read(b"list.bin");
+    if fd < 0 {
+        io::write_all(STDOUT_FILENO, b"no list\n");
+        return;
+    }
+    let mut list = io::large_buffer();
+    let input = read_file(fd, &mut list);
+    libc::close(fd);
+    match input {
+        Input::Whole(n) => print(&list[..n], false),
+        Input::Longer => print(&list, true),
+        Input::Failed => {
+            io::write_all(STDOUT_FILENO, b"no list\n");
+        }
+    }
+}
