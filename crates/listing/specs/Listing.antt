@@ -1,5 +1,5 @@
 -- What the program prints for a list: its view, or its refusal (paper 01, "Takes we tried on paper"). Assumes nothing.
-use Prim.Native.Nat.{ℕ, _+_, _*_}
+use Prim.Native.Nat.{ℕ}
 use mathlib.Core.Bool.{Bool, cond}
 use mathlib.Core.List.{List, [], _∷_, _++_, flatMap}
 use Rattle.codec.specs.Decimal.{decimal}

@@ -2,6 +2,8 @@
 use libc::STDOUT_FILENO;
 use slices::Answer;
 ghost use lib.ListN.{length};
+ghost use mathlib.Core.Path.{_≡_};
+ghost use Rattle.listing.specs.Calls.{textRoom};
 ghost use Rattle.show.specs.Input.{Within};
 
 // What reading a file gave: how many bytes it has, that it has more than the buffer holds, or that it could not be read.
@@ -38,10 +40,16 @@ fn read_file(fd: i32, buf: &mut [u8]) -> Input
     Input::Longer
 }
 
-// Prints the listing of a list.
-fn print(list: &[u8], longer: bool) {
-    let mut text = [0u8; listing::TEXT];
-    if let Answer::Wrote(n) = listing::text(list, longer, &mut text) {
+// A buffer for a listing. The `ensures` gives only the length, which lending the array as a slice needs.
+fn text_buffer() -> [u8; listing::TEXT]
+    ensures { λ r. ⌜ textRoom ≡ length r ⌝ }
+{
+    [0; listing::TEXT]
+}
+
+// Prints the listing of a list, by way of a buffer for its text.
+fn print(list: &[u8], longer: bool, text: &mut [u8]) {
+    if let Answer::Wrote(n) = listing::text(list, longer, text) {
         if n <= text.len() {
             io::write_all(STDOUT_FILENO, &text[..n]);
         }
@@ -57,9 +65,10 @@ fn main() {
     let mut list = io::large_buffer();
     let input = read_file(fd, &mut list);
     libc::close(fd);
+    let mut text = text_buffer();
     match input {
-        Input::Whole(n) => print(&list[..n], false),
-        Input::Longer => print(&list, true),
+        Input::Whole(n) => print(&list[..n], false, &mut text),
+        Input::Longer => print(&list, true, &mut text),
         Input::Failed => {
             io::write_all(STDOUT_FILENO, b"no list\n");
         }

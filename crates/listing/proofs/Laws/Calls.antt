@@ -8,7 +8,7 @@ use Rattle.slices.specs.Limits.{chunk}
 use Rattle.slices.specs.Record.{records}
 use Rattle.slices.specs.Numbers.{shortBuffer, tooMany}
 use Rattle.slices.specs.Outcome.{refused, done, refusal, firstOf}
-use Rattle.slices.proofs.Laws.Outcome.{row-holds, row-passes}
+use Rattle.slices.proofs.Laws.Outcome.{row-holds}
 use Rattle.views.specs.Calls.{viewOutcome}
 use Rattle.listing.specs.Listing.{fileLimit, header, lines, refusedLine, textOf, listing}
 use Rattle.listing.specs.Calls.{textRoom, textOutcome}

@@ -14,13 +14,6 @@ use Rattle.listing.proofs.Laws.Calls.{text-12, text-done, listing-longe
 use borrow.Author.Needs.{needs}
 use Rattle.listing.proofs.text.Statement.{statement}
 use Rattle.listing.proofs.text.Tie as tie
-use Rattle.listing.proofs.text.Reads as reads
-use Rattle.listing.proofs.text.Lts as lts
-use Rattle.listing.proofs.blank.Reads as blank-reads
-use Rattle.listing.proofs.lines.put_refused.Reads as put-refused-reads
-use Rattle.listing.proofs.lines.put_view.Reads as put-view-reads
-use Rattle.slices.proofs.refusals.refusal.Reads as refusal-reads
-use Rattle.views.proofs.view.Reads as view-reads
 
 -- the view was asked for with 65,536 bytes of room
 viewed : (v : tie.After-view2)
@@ -35,27 +28,21 @@ wrote m = said-wrote _ _ _ _ (rw (m .n .given .1) at (viewed (m .before .before 
 room : (m : tie.After-n) → length (wrote m .bytes) ≤ fileLimit
 room m = view-fits _ _ _ _ (wrote m .outcome) .1
 
--- src/lib.rt:31:32
 refusal-requires : tie.Need-refusal-requires
 refusal-requires c κs = search needs
 
--- src/lib.rt:31:9
 returns : tie.Need-returns
 returns c = answers-refusal _ _ _ _ (text-12 _ _ _ (c .before .if1 .taken)) (c .refusal .ensures)
 
--- src/lib.rt:34:54
 refusal-requires-2 : tie.Need-refusal-requires-2
 refusal-requires-2 c κs = search needs
 
--- src/lib.rt:34:30
 put-refused-requires : tie.Need-put-refused-requires
 put-refused-requires c κs = search needs
 
--- src/lib.rt:34:9
 same-length : tie.Need-same-length
 same-length c = search needs
 
--- src/lib.rt:34:9
 returns-2 : tie.Need-returns-2
 returns-2 c =
     let put = c .before .before in
@@ -66,60 +53,48 @@ returns-2 c =
     let w = rw (refusal .refusal2 .ensures) at (put .put-refused .ensures) in
     answers-done _ _ _ _ _ (e ∙ ap done l) (sym (w .0)) (w .1)
 
--- src/lib.rt:36:20
 blank-requires : tie.Need-blank-requires
 blank-requires c κs = search needs
 
--- src/lib.rt:37:29
 cast-view : tie.Need-cast-view
 cast-view c = search needs
 
--- src/lib.rt:37:43
 slice-aggregate-view : tie.Need-slice-aggregate-view
 slice-aggregate-view c = search needs
 
--- src/lib.rt:37:11
 view-requires : tie.Need-view-requires
 view-requires c κs = search needs
 
--- src/lib.rt:38:25
 enum-known-refusal : tie.Need-enum-known-refusal
 enum-known-refusal c = search needs
 
--- src/lib.rt:38:51
 put-refused-requires-2 : tie.Need-put-refused-requires-2
 put-refused-requires-2 c κs = search needs
 
--- src/lib.rt:39:23
 enum-known-n : tie.Need-enum-known-n
 enum-known-n c = search needs
 
--- src/lib.rt:39:64
 array-share-prefix-view : tie.Need-array-share-prefix-view
 array-share-prefix-view c =
     let m = c .before .before in
     let v = m .before .before .before in
     omega (arith, wrote m .counted, room m, v .view2 .kept .1 .1 .0)
 
--- src/lib.rt:39:64
 slice-aggregate-put-view : tie.Need-slice-aggregate-put-view
 slice-aggregate-put-view c =
     let m = c .before .before .before in
     let v = m .before .before .before in
     simp length-take (omega (arith, wrote m .counted, room m, v .view2 .kept .1 .1 .0))
 
--- src/lib.rt:39:43
 put-view-requires : tie.Need-put-view-requires
 put-view-requires c κs =
     let m = c .before .before .before in
     let v = m .before .before .before in
     (simp length-take (omega (arith, wrote m .counted, room m, v .before .before .blank .ensures)), omega arith)
 
--- src/lib.rt:27:1
 same-length-2 : tie.Need-same-length-2
 same-length-2 c = search needs
 
--- src/lib.rt:27:1
 returns-3 : tie.Need-returns-3
 unfolding chunk
 returns-3 c =
@@ -133,11 +108,9 @@ returns-3 c =
     let l = listing-refused (a .longer) (now (a .list)) (else .if2 .left) _ o in
     answers-done _ _ _ _ _ (e ∙ ap done l) (sym (put .put-refused2 .ensures .0)) (put .put-refused2 .ensures .1)
 
--- src/lib.rt:27:1
 same-length-3 : tie.Need-same-length-3
 same-length-3 c = search needs
 
--- src/lib.rt:27:1
 returns-4 : tie.Need-returns-4
 unfolding chunk
 returns-4 c =

@@ -9,27 +9,19 @@ use Rattle.codec.proofs.Laws.Splice.{Put, put-then, splice-one}
 use borrow.Author.Needs.{needs}
 use Rattle.listing.proofs.lines.put_field.Statement.{statement}
 use Rattle.listing.proofs.lines.put_field.Tie as tie
-use Rattle.listing.proofs.lines.put_field.Reads as reads
-use Rattle.listing.proofs.lines.put_field.Lts as lts
-use Rattle.codec.proofs.decimal.put_decimal.Reads as put-decimal-reads
 
--- src/lines.rt:23:9
 put-decimal-requires : tie.Need-put-decimal-requires
 put-decimal-requires c κs = search needs
 
--- src/lines.rt:24:5
 slice-write-out : tie.Need-slice-write-out
 slice-write-out c = search needs
 
--- src/lines.rt:25:5
 add-result : tie.Need-add-result
 add-result c = search needs
 
--- src/lines.rt:19:1
 same-length : tie.Need-same-length
 same-length c = search needs
 
--- src/lines.rt:19:1
 returns : tie.Need-returns
 unfolding field
 returns c =

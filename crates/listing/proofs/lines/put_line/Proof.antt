@@ -7,51 +7,37 @@ use Rattle.codec.proofs.Laws.Splice.{Put, put-then, put-as}
 use borrow.Author.Needs.{needs}
 use Rattle.listing.proofs.lines.put_line.Statement.{statement}
 use Rattle.listing.proofs.lines.put_line.Tie as tie
-use Rattle.listing.proofs.lines.put_line.Reads as reads
-use Rattle.listing.proofs.lines.put_line.Lts as lts
-use Rattle.listing.proofs.lines.put_field.Reads as put-field-reads
 
--- src/lines.rt:33:32
 cast-put-field : tie.Need-cast-put-field
 cast-put-field c = search needs
 
--- src/lines.rt:33:9
 put-field-requires : tie.Need-put-field-requires
 put-field-requires c κs = search needs
 
--- src/lines.rt:34:9
 put-field-requires-2 : tie.Need-put-field-requires-2
 put-field-requires-2 c κs = search needs
 
--- src/lines.rt:35:31
 cast-put-field-2 : tie.Need-cast-put-field-2
 cast-put-field-2 c = search needs
 
--- src/lines.rt:35:9
 put-field-requires-3 : tie.Need-put-field-requires-3
 put-field-requires-3 c κs = search needs
 
--- src/lines.rt:36:31
 cast-put-field-3 : tie.Need-cast-put-field-3
 cast-put-field-3 c = search needs
 
--- src/lines.rt:36:9
 put-field-requires-4 : tie.Need-put-field-requires-4
 put-field-requires-4 c κs = search needs
 
--- src/lines.rt:37:23
 cast-put-field-4 : tie.Need-cast-put-field-4
 cast-put-field-4 c = search needs
 
--- src/lines.rt:37:5
 put-field-requires-5 : tie.Need-put-field-requires-5
 put-field-requires-5 c κs = search needs
 
--- src/lines.rt:29:1
 same-length : tie.Need-same-length
 same-length c = search needs
 
--- src/lines.rt:29:1
 returns : tie.Need-returns
 unfolding line
 returns c =

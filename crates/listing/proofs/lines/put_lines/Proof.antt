@@ -12,13 +12,9 @@ use Rattle.slices.specs.Record.{recordAt, recordsFrom, records, count}
 use Rattle.listing.specs.Listing.{line, lines}
 use Rattle.listing.specs.Calls.{lineRoom}
 use Rattle.listing.proofs.Laws.Lines.{lines-more}
-use Rattle.codec.proofs.Laws.Splice.{Put, put-then, put-as, splice-nil}
+use Rattle.codec.proofs.Laws.Splice.{Put, put-then, splice-nil}
 use Rattle.listing.proofs.lines.put_lines.Statement.{statement}
 use Rattle.listing.proofs.lines.put_lines.Tie as tie
-use Rattle.listing.proofs.lines.put_lines.Reads as reads
-use Rattle.listing.proofs.lines.put_lines.Lts as lts
-use Rattle.listing.proofs.lines.put_line.Reads as put-line-reads
-use Rattle.slices.proofs.records.read_record.Reads as read-record-reads
 
 abbrev Inv-loop : tie.InvT-loop
 Inv-loop out₀ start view n at₀ i₀ out at i = (i ≤ n) × (length out ≡ length out₀) × (at ≤ start + i * lineRoom) × Put out₀ start (lines (recordsFrom view 0 i)) out at
@@ -26,28 +22,22 @@ Inv-loop out₀ start view n at₀ i₀ out at i = (i ≤ n) × (length out ≡ 
 abbrev μ-loop : tie.MeasureT-loop
 μ-loop out₀ start view n at₀ i₀ out at i = n - i
 
--- src/lines.rt:58:5
 loop-holds : tie.Need-loop-holds Inv-loop μ-loop
 unfolding recordsFrom lines flatMap
 loop-holds c = (zero-le, refl, omega arith, record { ends = sym (add-zero _); holds = sym (splice-nil _ _) })
 
--- src/lines.rt:59:32
 read-record-requires : tie.Need-read-record-requires Inv-loop μ-loop
 read-record-requires c κs = omega arith
 
--- src/lines.rt:59:9
 put-line-requires : tie.Need-put-line-requires Inv-loop μ-loop
 put-line-requires c κs = omega arith
 
--- src/lines.rt:60:9
 add-i : tie.Need-add-i Inv-loop μ-loop
 add-i c = omega arith
 
--- src/lines.rt:58:5
 loop-less : tie.Need-loop-less Inv-loop μ-loop
 loop-less c = omega arith
 
--- src/lines.rt:58:5
 loop-again : tie.Need-loop-again Inv-loop μ-loop
 loop-again c =
     let put = c .before .before in
@@ -64,11 +54,9 @@ loop-again c =
       rw (add-one, lines-more (now (a .view)) (l .loop .i)) q,
     )
 
--- src/lines.rt:51:1
 same-length : tie.Need-same-length Inv-loop μ-loop
 same-length c = c .before .loop .inv .1
 
--- src/lines.rt:51:1
 returns : tie.Need-returns Inv-loop μ-loop
 unfolding records count
 returns c =

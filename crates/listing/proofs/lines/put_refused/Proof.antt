@@ -10,45 +10,31 @@ use Rattle.codec.proofs.Laws.Splice.{Put, put-then, put-as}
 use borrow.Author.Needs.{needs}
 use Rattle.listing.proofs.lines.put_refused.Statement.{statement}
 use Rattle.listing.proofs.lines.put_refused.Tie as tie
-use Rattle.listing.proofs.lines.put_refused.Reads as reads
-use Rattle.listing.proofs.lines.put_refused.Lts as lts
-use Rattle.codec.proofs.decimal.put_decimal.Reads as put-decimal-reads
-use Rattle.codec.proofs.put.put.Reads as put-reads
-use Rattle.listing.proofs.lines.put_field.Reads as put-field-reads
 
--- src/lines.rt:70:30
 slice-aggregate-put : tie.Need-slice-aggregate-put
 slice-aggregate-put c = search needs
 
--- src/lines.rt:70:9
 put-requires : tie.Need-put-requires
 put-requires c κs = search needs
 
--- src/lines.rt:71:42
 cast-put-decimal : tie.Need-cast-put-decimal
 cast-put-decimal c = search needs
 
--- src/lines.rt:71:9
 put-decimal-requires : tie.Need-put-decimal-requires
 put-decimal-requires c κs = search needs
 
--- src/lines.rt:72:30
 slice-aggregate-put-2 : tie.Need-slice-aggregate-put-2
 slice-aggregate-put-2 c = search needs
 
--- src/lines.rt:72:9
 put-requires-2 : tie.Need-put-requires-2
 put-requires-2 c κs = search needs
 
--- src/lines.rt:73:5
 put-field-requires : tie.Need-put-field-requires
 put-field-requires c κs = search needs
 
--- src/lines.rt:66:1
 same-length : tie.Need-same-length
 same-length c = search needs
 
--- src/lines.rt:66:1
 returns : tie.Need-returns
 unfolding refusedLine
 returns c =

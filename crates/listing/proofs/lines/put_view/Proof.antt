@@ -9,28 +9,19 @@ use Rattle.listing.specs.Listing.{header, lines}
 use borrow.Author.Needs.{needs}
 use Rattle.listing.proofs.lines.put_view.Statement.{statement}
 use Rattle.listing.proofs.lines.put_view.Tie as tie
-use Rattle.listing.proofs.lines.put_view.Reads as reads
-use Rattle.listing.proofs.lines.put_view.Lts as lts
-use Rattle.codec.proofs.put.put.Reads as put-reads
-use Rattle.listing.proofs.lines.put_lines.Reads as put-lines-reads
 
--- src/lines.rt:46:34
 slice-aggregate-put : tie.Need-slice-aggregate-put
 slice-aggregate-put c = search needs
 
--- src/lines.rt:46:9
 put-requires : tie.Need-put-requires
 put-requires c κs = search needs
 
--- src/lines.rt:47:5
 put-lines-requires : tie.Need-put-lines-requires
 put-lines-requires c κs = search needs
 
--- src/lines.rt:41:1
 same-length : tie.Need-same-length
 same-length c = search needs
 
--- src/lines.rt:41:1
 returns : tie.Need-returns
 returns c =
     let put = c .before .before in

@@ -1,0 +1,18 @@
+-- The starred cases hold of the definitions: each is computed. Assumes nothing.
+use mathlib.Core.Path.{refl}
+use mathlib.Core.List.{flatMap}
+use Rattle.codec.specs.All.{All}
+use Rattle.codec.specs.Fixed.{bigEndian, numberAt}
+use Rattle.slices.specs.Limits.{chunk}
+use Rattle.slices.specs.Cover.{covers, given, layer, over, cover}
+use Rattle.slices.specs.Record.{encode, encodeAll, decode, recordAt, recordsFrom, count, records}
+use Rattle.slices.specs.Outcome.{firstOf}
+use Rattle.slices.specs.Refusals.{notWhole, tooMany, pastChunk, tooLarge, zerosWithSlice, pastSlice, rowsFrom, listRows, checkOutcome}
+use Rattle.views.specs.Runs.{join, runs}
+use Rattle.views.specs.View.{next, viewRuns, asRecord, written, view}
+use Rattle.views.specs.Calls.{chunkTooLong, viewBytes, viewRows, viewOutcome}
+use Rattle.cases.specs.Starred.{Holds, table}
+
+pub starred-cases : All Holds table
+unfolding Holds table flatMap bigEndian numberAt chunk covers given layer over cover encode encodeAll decode recordAt recordsFrom count records firstOf notWhole tooMany pastChunk tooLarge zerosWithSlice pastSlice rowsFrom listRows checkOutcome join runs next viewRuns asRecord written view chunkTooLong viewBytes viewRows viewOutcome
+starred-cases = (refl, (refl, (refl, (refl, (refl, (refl, (refl, (refl, (refl, (refl, tt))))))))))

@@ -1,0 +1,48 @@
+-- The starred cases of paper 01 ("Takes we tried on paper"), as one table. What the paper leaves open is chosen here: the record of 24 bytes
+-- is one of zeros, and the slice that is hidden in part is slice 7 of 16 bytes. Assumes nothing.
+use Prim.Native.Nat.{ℕ, _*_}
+use mathlib.Core.Path.{_≡_}
+use mathlib.Core.List.{List, [], _∷_}
+use lib.ListN.{length, replicate}
+use Rattle.slices.specs.Limits.{recordSize}
+use Rattle.slices.specs.Record.{encodeAll}
+use Rattle.slices.specs.Numbers as number
+use Rattle.slices.specs.Outcome.{Outcome, refused, done, refusal}
+use Rattle.slices.specs.Refusals.{checkOutcome}
+use Rattle.views.specs.Calls.{viewOutcome}
+use Rattle.slices.specs.declared.Record.{Record}
+
+-- a case, with what it gives
+pub data Case : Type 0 where
+  -- the check of a list's bytes
+  checked : List ℕ → Outcome ℕ → Case
+  -- the view of records for a chunk length, into a buffer that just holds it
+  viewed : List Record → ℕ → List Record → Case
+
+-- what a case says of the definitions
+unfoldable pub Holds : Case → Type 0
+Holds (checked bs o) = checkOutcome bs ≡ o
+Holds (viewed rs l runs) = viewOutcome (encodeAll rs) l (length runs * recordSize) ≡ done (encodeAll runs)
+
+-- a record by its fields, in the order of its bytes
+abbrev pub rec : ℕ → ℕ → ℕ → ℕ → ℕ → Record
+rec p i s o l = record { pos = p; id = i; size = s; off = o; len = l }
+
+unfoldable pub table : List Case
+table =
+    -- empty list, L = 0: no runs; L = 5: one uncovered run
+    viewed [] 0 []
+    ∷ viewed [] 5 (rec 0 0 5 0 5 ∷ [])
+    -- 24 bytes accepted if the record is; 23 and 25 give 1
+    ∷ checked (replicate 24 0) (done 1)
+    ∷ checked (replicate 23 0) (refused (refusal number.notWhole 0))
+    ∷ checked (replicate 25 0) (refused (refusal number.notWhole 0))
+    -- zeros (id, size and off 0) at pos 67,108,863, len 1 pass; len 2 gives 3
+    ∷ checked (encodeAll (rec 67108863 0 0 0 1 ∷ [])) (done 1)
+    ∷ checked (encodeAll (rec 67108863 0 0 0 2 ∷ [])) (refused (refusal number.pastChunk 0))
+    -- pos 0, id 7, size 10, off 4, len 6 passes; len 7 gives 6
+    ∷ checked (encodeAll (rec 0 7 10 4 6 ∷ [])) (done 1)
+    ∷ checked (encodeAll (rec 0 7 10 4 7 ∷ [])) (refused (refusal number.pastSlice 0))
+    -- id 0, size 0, len 8 over a slice hides eight of its bytes
+    ∷ viewed (rec 0 7 16 0 16 ∷ rec 4 0 0 0 8 ∷ []) 16 (rec 0 7 16 0 4 ∷ rec 4 0 0 0 8 ∷ rec 12 7 16 12 4 ∷ [])
+    ∷ []
