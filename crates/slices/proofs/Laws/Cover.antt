@@ -1,7 +1,7 @@
 -- Laws of the cover. Laying over is associative, with `Nothing` as its unit, so a list's cover is its parts' covers laid over one another:
 -- wherever a list is split in two, its cover is the second part's laid over the first's.
 -- Assumes nothing.
-use Prim.Native.Nat.{ℕ, _+_, _-_, _<_, _≤_}
+use Prim.Native.Nat.{ℕ, _+_, _-_, _%_, _^_, _<_, _≤_}
 use native.Mathlib.Omega.{arith}
 use mathlib.Core.Path.{_≡_, refl, sym, ap, _∙_}
 use mathlib.Core.Logic.{_≢_}
@@ -10,6 +10,8 @@ use lib.Dec.{eqb}
 use native.Mathlib.Decide.{decLt}
 use mathlib.Core.List.{List, [], _∷_, _++_}
 use borrow.Author.Tests.{lt-ltb, le-ltb, le-leb, lt-leb, eq-eqb, ne-eqb}
+use Rattle.slices.specs.Limits.{chunk}
+use Rattle.slices.specs.Passes.{Passes}
 use Rattle.slices.specs.Cover.{cover, over, layer, given, covers}
 use Rattle.slices.specs.declared.Record.{Record}
 use Rattle.slices.specs.declared.Source.{Source}
@@ -93,3 +95,20 @@ layer-before r p a = layer-not r p (covers-before r p a)
 
 pub layer-after : (r : Record) (p : ℕ) → r .pos + r .len ≤ p → layer r p ≡ Nothing
 layer-after r p a = layer-not r p (covers-after r p a)
+
+-- ---- the distance of a position behind a record's first, modulo 2 ^ 32
+
+module _ (r : Record) (h : Passes r) (p d : ℕ) (a : p < 2 ^ 32) (b : d < 2 ^ 32) (e : (d + r .pos) % 2 ^ 32 ≡ p) where
+  pub distance-in : d < r .len → (covers r p ≡ true) × (r .pos + d ≡ p)
+  unfolding chunk
+  distance-in l =
+      let q : r .pos + d ≡ p = omega (arith, h .inside) in
+      (covers-in r p (omega arith) (omega arith), q)
+
+  pub distance-out : r .len ≤ d → covers r p ≡ false
+  unfolding chunk
+  distance-out l = go (decLt p (r .pos))
+    where
+      go : Dec (p < r .pos) → covers r p ≡ false
+      go (yes f) = covers-before r p f
+      go (no f) = covers-after r p (omega (arith, h .inside))
