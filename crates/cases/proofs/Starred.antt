@@ -11,8 +11,14 @@ use Rattle.slices.specs.Refusals.{notWhole, tooMany, pastChunk, tooLarge, zeros
 use Rattle.views.specs.Runs.{join, runs}
 use Rattle.views.specs.View.{next, viewRuns, asRecord, written, view}
 use Rattle.views.specs.Calls.{chunkTooLong, viewBytes, viewRows, viewOutcome}
+use Rattle.codec.specs.Decimal.{decimal, digitOf}
+use Rattle.codec.specs.Scan.{decimalAt}
+use Rattle.objects.specs.Parts.{scan}
+use Rattle.objects.specs.Written.{written as writing, reading}
+use Rattle.objects.specs.Keys.{readRedis}
+use Rattle.objects.specs.Names.{objectAllowed, objectName}
 use Rattle.cases.specs.Starred.{Holds, table}
 
 pub starred-cases : All Holds table
-unfolding Holds table flatMap bigEndian numberAt chunk covers given layer over cover encode encodeAll decode recordAt recordsFrom count records firstOf notWhole tooMany pastChunk tooLarge zerosWithSlice pastSlice rowsFrom listRows checkOutcome join runs next viewRuns asRecord written view chunkTooLong viewBytes viewRows viewOutcome
-starred-cases = (refl, (refl, (refl, (refl, (refl, (refl, (refl, (refl, (refl, (refl, tt))))))))))
+unfolding Holds table flatMap bigEndian numberAt chunk covers given layer over cover encode encodeAll decode recordAt recordsFrom count records firstOf notWhole tooMany pastChunk tooLarge zerosWithSlice pastSlice rowsFrom listRows checkOutcome join runs next viewRuns asRecord written view chunkTooLong viewBytes viewRows viewOutcome decimal digitOf decimalAt scan writing reading readRedis objectAllowed objectName
+starred-cases = (refl, (refl, (refl, (refl, (refl, (refl, (refl, (refl, (refl, (refl, (refl, (refl, (refl, (refl, tt))))))))))))))

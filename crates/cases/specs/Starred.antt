@@ -10,6 +10,8 @@ use Rattle.slices.specs.Numbers as number
 use Rattle.slices.specs.Outcome.{Outcome, refused, done, refusal}
 use Rattle.slices.specs.Refusals.{checkOutcome}
 use Rattle.views.specs.Calls.{viewOutcome}
+use Rattle.objects.specs.Keys.{Chunk, chunk, readRedis}
+use Rattle.objects.specs.Names.{writeObject}
 use Rattle.slices.specs.declared.Record.{Record}
 
 -- a case, with what it gives
@@ -18,11 +20,17 @@ pub data Case : Type 0 where
   checked : List ℕ → Outcome ℕ → Case
   -- the view of records for a chunk length, into a buffer that just holds it
   viewed : List Record → ℕ → List Record → Case
+  -- the reading of a Redis key
+  keyRead : List ℕ → Outcome Chunk → Case
+  -- the name of an object, by its id, block and block length
+  named : ℕ → ℕ → ℕ → List ℕ → Case
 
 -- what a case says of the definitions
 unfoldable pub Holds : Case → Type 0
 Holds (checked bs o) = checkOutcome bs ≡ o
 Holds (viewed rs l runs) = viewOutcome (encodeAll rs) l (length runs * recordSize) ≡ done (encodeAll runs)
+Holds (keyRead key o) = readRedis key ≡ o
+Holds (named id block len name) = writeObject id block len (length name) ≡ done name
 
 -- a record by its fields, in the order of its bytes
 abbrev pub rec : ℕ → ℕ → ℕ → ℕ → ℕ → Record
@@ -45,4 +53,10 @@ table =
     ∷ checked (encodeAll (rec 0 7 10 4 7 ∷ [])) (refused (refusal number.pastSlice 0))
     -- id 0, size 0, len 8 over a slice hides eight of its bytes
     ∷ viewed (rec 0 7 16 0 16 ∷ rec 4 0 0 0 8 ∷ []) 16 (rec 0 7 16 0 4 ∷ rec 4 0 0 0 8 ∷ rec 12 7 16 12 4 ∷ [])
+    -- Redis key `c100_0` is inode 100, index 0; `c100_0,5` and `c0100_0` give 13
+    ∷ keyRead (99 ∷ 49 ∷ 48 ∷ 48 ∷ 95 ∷ 48 ∷ []) (done (chunk 100 0))
+    ∷ keyRead (99 ∷ 49 ∷ 48 ∷ 48 ∷ 95 ∷ 48 ∷ 44 ∷ 53 ∷ []) (refused (refusal number.notOfForm 0))
+    ∷ keyRead (99 ∷ 48 ∷ 49 ∷ 48 ∷ 48 ∷ 95 ∷ 48 ∷ []) (refused (refusal number.notOfForm 0))
+    -- id 1234567, block 2, length 100: `chunks/1/1234/1234567_2_100`
+    ∷ named 1234567 2 100 (99 ∷ 104 ∷ 117 ∷ 110 ∷ 107 ∷ 115 ∷ 47 ∷ 49 ∷ 47 ∷ 49 ∷ 50 ∷ 51 ∷ 52 ∷ 47 ∷ 49 ∷ 50 ∷ 51 ∷ 52 ∷ 53 ∷ 54 ∷ 55 ∷ 95 ∷ 50 ∷ 95 ∷ 49 ∷ 48 ∷ 48 ∷ [])
     ∷ []

@@ -1,4 +1,6 @@
 pub mod All
 pub mod Splice
 pub mod Fixed
+pub mod Little
 pub mod Decimal
+pub mod Scan

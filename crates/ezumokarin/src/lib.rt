@@ -1,11 +1,33 @@
-// The C interface: each call under a C name, with its answer as a struct of numbers.
+// The C interface: each call under a C name, with its answer as a struct of numbers. On success `refusal` is 0; a field without
+// meaning is 0.
 mod answers;
 mod lists;
+mod names;
 
-// What a call answers: refusal 0, and the count; or the refusal's number and place.
+// What a call that counts or writes answers.
 #[repr(C)]
 pub struct Plain {
     pub refusal: u64,
     pub place: u64,
     pub count: u64,
+}
+
+// What an object name names; `volume` is the length of the volume name at its front, 0 for a short name.
+#[repr(C)]
+pub struct Object {
+    pub refusal: u64,
+    pub place: u64,
+    pub id: u64,
+    pub block: u64,
+    pub length: u64,
+    pub volume: u64,
+}
+
+// What a chunk key names.
+#[repr(C)]
+pub struct Chunk {
+    pub refusal: u64,
+    pub place: u64,
+    pub inode: u64,
+    pub index: u64,
 }

@@ -49,7 +49,7 @@ unfolding numberAt
 numberAt-behind pre bs at zero = refl
 numberAt-behind pre bs at (suc k) = rw (add-assoc, numberAt-behind pre bs at k, getD-append-add)
 
-all-getD : (P : ℕ → Type 0) (bs : List ℕ) (i d : ℕ) → All P bs → P d → P (getD bs i d)
+pub all-getD : (P : ℕ → Type 0) (bs : List ℕ) (i d : ℕ) → All P bs → P d → P (getD bs i d)
 all-getD P [] i d h z = z
 all-getD P (b ∷ bs) zero d h z = h .0
 all-getD P (b ∷ bs) (suc i) d h z = all-getD P bs i d (h .1) z

@@ -1,0 +1,33 @@
+-- `ezumokarin::names::ezk_write_full_name` meets its contract: it passes the answer on. Assumes nothing.
+use mathlib.Core.Path.{ap, _∙_}
+use Rattle.ezumokarin.specs.Plain.{plainAnswer}
+use Rattle.ezumokarin.proofs.Laws.{plain-wrote}
+use borrow.Author.Needs.{needs}
+use Rattle.ezumokarin.proofs.names.ezk_write_full_name.Statement.{statement}
+use Rattle.ezumokarin.proofs.names.ezk_write_full_name.Tie as tie
+use Rattle.ezumokarin.proofs.names.ezk_write_full_name.Reads as reads
+use Rattle.ezumokarin.proofs.names.ezk_write_full_name.Lts as lts
+use Rattle.ezumokarin.proofs.answers.of_answer.Reads as of-answer-reads
+use Rattle.objects.proofs.names.write_full_name.Reads as write-full-name-reads
+
+-- src/names.rt:35:24
+write-full-name-requires : tie.Need-write-full-name-requires
+write-full-name-requires c κs = search needs
+
+-- src/names.rt:35:5
+of-answer-requires : tie.Need-of-answer-requires
+of-answer-requires c κs = search needs
+
+-- src/names.rt:24:1
+same-length : tie.Need-same-length
+same-length c = search needs
+
+-- src/names.rt:24:1
+returns : tie.Need-returns
+returns c =
+    let a = c .before .before .before .write-full-name .ensures in
+    (c .of-answer .ensures ∙ ap plainAnswer (a .answers) ∙ plain-wrote _, a .leaves)
+
+pub ezk-write-full-name-spec : {M : Type 1} → statement M
+ezk-write-full-name-spec =
+    tie.close (tie.spec write-full-name-requires of-answer-requires same-length returns)
