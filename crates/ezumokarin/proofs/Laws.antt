@@ -5,6 +5,8 @@ use mathlib.Core.List.{List}
 use Rattle.slices.specs.Outcome.{Outcome, refused, done, answer}
 use Rattle.slices.specs.Refusals.{checked}
 use lib.ListN.{length}
+use Rattle.compaction.specs.Calls.{Written, answer as compactAnswer}
+use Rattle.ezumokarin.specs.Compact.{wroteBoth, plainCompacted}
 use Rattle.objects.specs.Keys.{Chunk as ChunkOf, chunkAnswer}
 use Rattle.objects.specs.Names.{Object as ObjectOf, Full, objectAnswer, fullAnswer, volumePart}
 use Rattle.ezumokarin.specs.Names.{objectRead, fullRead, chunkRead, plainObject, plainChunk}
@@ -36,3 +38,10 @@ pub plain-chunk : (o : Outcome ChunkOf) → plainChunk (chunkAnswer o) ≡ chunk
 unfolding plainChunk chunkAnswer chunkRead
 plain-chunk (refused r) = refl
 plain-chunk (done c) = refl
+
+-- ---- compaction
+
+pub plain-both : (o : Outcome Written) → plainCompacted (compactAnswer o) ≡ wroteBoth o
+unfolding plainCompacted compactAnswer wroteBoth
+plain-both (refused r) = refl
+plain-both (done w) = refl

@@ -1,12 +1,15 @@
 // Answers as structs of numbers.
 use crate::Chunk;
+use crate::Compact;
 use crate::Object;
 use crate::Plain;
+use compaction::Compacted;
 use objects::ChunkKey;
 use objects::ObjectName;
 use slices::Answer;
 use slices::Checked;
 ghost use mathlib.Core.Path.{_≡_};
+ghost use Rattle.ezumokarin.specs.Compact.{plainCompacted};
 ghost use Rattle.ezumokarin.specs.Names.{plainObject, plainChunk};
 ghost use Rattle.ezumokarin.specs.Plain.{plainChecked, plainAnswer};
 
@@ -83,6 +86,25 @@ pub(crate) fn of_chunk(k: ChunkKey) -> Chunk
             place: r.place as u64,
             inode: 0,
             index: 0,
+        },
+    }
+}
+
+pub(crate) fn of_compacted(c: Compacted) -> Compact
+    ensures { λ r. ⌜ r ≡ plainCompacted c ⌝ }
+{
+    match c {
+        Compacted::Wrote { plan, list } => Compact {
+            refusal: 0,
+            place: 0,
+            plan: plan as u64,
+            list: list as u64,
+        },
+        Compacted::Refused(r) => Compact {
+            refusal: r.number as u64,
+            place: r.place as u64,
+            plan: 0,
+            list: 0,
         },
     }
 }

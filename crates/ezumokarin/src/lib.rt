@@ -1,8 +1,10 @@
 // The C interface: each call under a C name, with its answer as a struct of numbers. On success `refusal` is 0; a field without
 // meaning is 0.
 mod answers;
+mod compacting;
 mod lists;
 mod names;
+mod reading;
 
 // What a call that counts or writes answers.
 #[repr(C)]
@@ -10,6 +12,15 @@ pub struct Plain {
     pub refusal: u64,
     pub place: u64,
     pub count: u64,
+}
+
+// What compaction answers: the counts of the plan's bytes and of the new list's.
+#[repr(C)]
+pub struct Compact {
+    pub refusal: u64,
+    pub place: u64,
+    pub plan: u64,
+    pub list: u64,
 }
 
 // What an object name names; `volume` is the length of the volume name at its front, 0 for a short name.

@@ -28,7 +28,7 @@ chunk i j = record { inode = i; index = j }
 unfoldable pub chunkAllowed : ℕ → ℕ → Bool
 chunkAllowed inode index = leb inode maxNumber && leb index maxIndex
 
--- the answer of a call that reads a key
+-- the answer of a call that reads a key: `Refused` with refusal 13, or `Key` with the inode and the index
 unfoldable pub chunkAnswer : Outcome Chunk → ChunkKey
 chunkAnswer (refused r) = Refused r
 chunkAnswer (done c) = Key (c .inode) (c .index)

@@ -58,7 +58,7 @@ objectOf ns = object (getD ns 2 0) (getD ns 3 0) (getD ns 4 0)
 unfoldable pub readObject : List ℕ → Outcome Object
 readObject text = reading objectOf (scan nameForm text [] 0)
 
--- the answer of the call that reads a short name
+-- the answer of the call that reads a short name: `Refused` with refusal 13, or `Block` with the id, the block and the block length
 unfoldable pub objectAnswer : Outcome Object → ObjectName
 objectAnswer (refused r) = Refused r
 objectAnswer (done o) = Block (o .id) (o .block) (o .length)
@@ -101,7 +101,7 @@ inVolume volume (done o) = done (full volume o)
 unfoldable pub readFull : List ℕ → Outcome Full
 readFull text = inVolume (take (volumeRun text) text) (reading objectOf (fullScan text))
 
--- the answer of the call that reads a full name
+-- the answer of the call that reads a full name: the same, without the volume name
 unfoldable pub fullAnswer : Outcome Full → ObjectName
 fullAnswer (refused r) = Refused r
 fullAnswer (done f) = Block (f .object .id) (f .object .block) (f .object .length)

@@ -51,11 +51,12 @@ run-all (b ∷ volume) = go (run-all volume) (volumeByte b) refl
     go ih true e = rw e (ih ∙ sym (eqb·suc-suc (volumeRun volume) (length volume)))
     go ih false e = rw e (sym (eqb·zero-suc (length volume)))
 
--- a run of volume bytes
+-- a test without a second half
 pub or-none : (t : Bool) → t ≡ t || false
 or-none true = refl
 or-none false = refl
 
+-- one byte more of a run
 module _ (text : List ℕ) (i : ℕ) (h : i < length text) where
   pub run-stops : volumeByte (getD text i 0) ≡ false → i + volumeRun (drop i text) ≡ i
   unfolding volumeRun

@@ -3,27 +3,20 @@ use Rattle.ezumokarin.specs.Names.{plainObject}
 use borrow.Author.Needs.{needs}
 use Rattle.ezumokarin.proofs.answers.of_object.Statement.{statement}
 use Rattle.ezumokarin.proofs.answers.of_object.Tie as tie
-use Rattle.ezumokarin.proofs.answers.of_object.Reads as reads
-use Rattle.ezumokarin.proofs.answers.of_object.Lts as lts
 
--- src/answers.rt:52:29
 enum-known-o : tie.Need-enum-known-o
 enum-known-o c = search needs
 
--- src/answers.rt:60:29
 enum-known-o-2 : tie.Need-enum-known-o-2
 enum-known-o-2 c = search needs
 
--- src/answers.rt:61:22
 cast-t8 : tie.Need-cast-t8
 cast-t8 c = search needs
 
--- src/answers.rt:48:1
 returns : tie.Need-returns
 unfolding plainObject
 returns c = rw (c .before .o .given .1)
 
--- src/answers.rt:48:1
 returns-2 : tie.Need-returns-2
 unfolding plainObject
 returns-2 c = rw (c .before .before .o2 .given .1)

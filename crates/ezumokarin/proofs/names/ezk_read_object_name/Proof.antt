@@ -6,20 +6,13 @@ use Rattle.ezumokarin.proofs.Laws.{plain-object}
 use borrow.Author.Needs.{needs}
 use Rattle.ezumokarin.proofs.names.ezk_read_object_name.Statement.{statement}
 use Rattle.ezumokarin.proofs.names.ezk_read_object_name.Tie as tie
-use Rattle.ezumokarin.proofs.names.ezk_read_object_name.Reads as reads
-use Rattle.ezumokarin.proofs.names.ezk_read_object_name.Lts as lts
-use Rattle.ezumokarin.proofs.answers.of_object.Reads as of-object-reads
-use Rattle.objects.proofs.names.read_object_name.Reads as read-object-name-reads
 
--- src/names.rt:43:24
 read-object-name-requires : tie.Need-read-object-name-requires
 read-object-name-requires c κs = search needs
 
--- src/names.rt:43:5
 of-object-requires : tie.Need-of-object-requires
 of-object-requires c κs = search needs
 
--- src/names.rt:39:1
 returns : tie.Need-returns
 returns c = c .of-object .ensures ∙ ap (λ (n : ObjectName). plainObject n 0) (c .before .read-object-name .ensures) ∙ plain-object _
 

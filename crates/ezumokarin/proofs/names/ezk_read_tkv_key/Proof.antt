@@ -5,20 +5,13 @@ use Rattle.ezumokarin.proofs.Laws.{plain-chunk}
 use borrow.Author.Needs.{needs}
 use Rattle.ezumokarin.proofs.names.ezk_read_tkv_key.Statement.{statement}
 use Rattle.ezumokarin.proofs.names.ezk_read_tkv_key.Tie as tie
-use Rattle.ezumokarin.proofs.names.ezk_read_tkv_key.Reads as reads
-use Rattle.ezumokarin.proofs.names.ezk_read_tkv_key.Lts as lts
-use Rattle.ezumokarin.proofs.answers.of_chunk.Reads as of-chunk-reads
-use Rattle.objects.proofs.keys.read_tkv_key.Reads as read-tkv-key-reads
 
--- src/names.rt:87:23
 read-tkv-key-requires : tie.Need-read-tkv-key-requires
 read-tkv-key-requires c κs = search needs
 
--- src/names.rt:87:5
 of-chunk-requires : tie.Need-of-chunk-requires
 of-chunk-requires c κs = search needs
 
--- src/names.rt:83:1
 returns : tie.Need-returns
 returns c = c .of-chunk .ensures ∙ ap plainChunk (c .before .read-tkv-key .ensures) ∙ plain-chunk _
 

@@ -5,24 +5,16 @@ use Rattle.ezumokarin.proofs.Laws.{plain-wrote}
 use borrow.Author.Needs.{needs}
 use Rattle.ezumokarin.proofs.names.ezk_write_full_name.Statement.{statement}
 use Rattle.ezumokarin.proofs.names.ezk_write_full_name.Tie as tie
-use Rattle.ezumokarin.proofs.names.ezk_write_full_name.Reads as reads
-use Rattle.ezumokarin.proofs.names.ezk_write_full_name.Lts as lts
-use Rattle.ezumokarin.proofs.answers.of_answer.Reads as of-answer-reads
-use Rattle.objects.proofs.names.write_full_name.Reads as write-full-name-reads
 
--- src/names.rt:35:24
 write-full-name-requires : tie.Need-write-full-name-requires
 write-full-name-requires c κs = search needs
 
--- src/names.rt:35:5
 of-answer-requires : tie.Need-of-answer-requires
 of-answer-requires c κs = search needs
 
--- src/names.rt:24:1
 same-length : tie.Need-same-length
 same-length c = search needs
 
--- src/names.rt:24:1
 returns : tie.Need-returns
 returns c =
     let a = c .before .before .before .write-full-name .ensures in

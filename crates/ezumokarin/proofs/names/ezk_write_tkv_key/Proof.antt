@@ -5,24 +5,16 @@ use Rattle.ezumokarin.proofs.Laws.{plain-wrote}
 use borrow.Author.Needs.{needs}
 use Rattle.ezumokarin.proofs.names.ezk_write_tkv_key.Statement.{statement}
 use Rattle.ezumokarin.proofs.names.ezk_write_tkv_key.Tie as tie
-use Rattle.ezumokarin.proofs.names.ezk_write_tkv_key.Reads as reads
-use Rattle.ezumokarin.proofs.names.ezk_write_tkv_key.Lts as lts
-use Rattle.ezumokarin.proofs.answers.of_answer.Reads as of-answer-reads
-use Rattle.objects.proofs.keys.write_tkv_key.Reads as write-tkv-key-reads
 
--- src/names.rt:71:24
 write-tkv-key-requires : tie.Need-write-tkv-key-requires
 write-tkv-key-requires c κs = search needs
 
--- src/names.rt:71:5
 of-answer-requires : tie.Need-of-answer-requires
 of-answer-requires c κs = search needs
 
--- src/names.rt:66:1
 same-length : tie.Need-same-length
 same-length c = search needs
 
--- src/names.rt:66:1
 returns : tie.Need-returns
 returns c =
     let a = c .before .before .before .write-tkv-key .ensures in

@@ -1,0 +1,21 @@
+// The blocks of a slice.
+ghost use mathlib.Core.Path.{_≡_};
+ghost use Rattle.blocks.specs.Blocks.{blockAllowed};
+
+// The smallest and the largest block size.
+pub const SMALLEST: u64 = 65536;
+
+pub const LARGEST: u64 = 16777216;
+
+// Whether a block size is allowed. The largest is a power of two, so that the powers of two up to it are its divisors.
+pub fn block_allowed(block: u64) -> bool
+    ensures { λ r. ⌜ r ≡ blockAllowed block ⌝ }
+{
+    if block < SMALLEST {
+        return false;
+    }
+    if LARGEST < block {
+        return false;
+    }
+    LARGEST % block == 0
+}

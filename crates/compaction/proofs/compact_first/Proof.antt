@@ -1,0 +1,147 @@
+-- `compaction::compact_first` meets its contract: where a buffer is too short both are left alone, else both answers are written.
+-- Assumes nothing.
+use Prim.Native.Nat.{_*_}
+use native.Mathlib.Omega.{arith}
+use mathlib.Core.Path.{refl, sym}
+use lib.ListN.{take}
+use lib.Seq.{length-take-le}
+use denote.Ref.{now}
+use Rattle.codec.specs.All.{All, Bytes}
+use Rattle.slices.specs.Limits.{recordSize}
+use Rattle.slices.specs.Passes.{Passes}
+use Rattle.slices.specs.Record.{count, records}
+use Rattle.compaction.proofs.Laws.Parts.{all-bytes}
+use Rattle.compaction.proofs.Laws.Calls.{compacts-refusal}
+use Rattle.compaction.proofs.Laws.NewList.{stand-most}
+use Rattle.compaction.proofs.Laws.Delivery.{pieces-room, firsts-pass, first-short-plan, first-short-list, first-done}
+use borrow.Author.Needs.{needs}
+use Rattle.compaction.proofs.compact_first.Statement.{statement}
+use Rattle.compaction.proofs.compact_first.Tie as tie
+
+-- the list's elements are bytes
+bytes : (c : tie.After-shared-slice-known) → Bytes (now (c .before .args .list))
+bytes c = all-bytes (now (c .before .args .list)) (λ i. c .shared-slice-known .given i .fits)
+
+-- the first k records pass
+passing : (c : tie.After-shared-slice-known) → let bs = now (c .before .args .list) in All Passes (records (take (c .before .args .k * recordSize) bs))
+passing c = firsts-pass _ (bytes c) (c .before .pre .0 .0) _ (c .before .pre .1 .1) (c .before .pre .0 .2)
+
+mul-cut : tie.Need-mul-cut
+mul-cut c = search needs
+
+slice-aggregate-firsts : tie.Need-slice-aggregate-firsts
+unfolding count
+slice-aggregate-firsts c =
+    let start = c .before .before .before .before in
+    sym (length-take-le (start .args .k * recordSize) (now (start .args .list)) (omega (arith, start .pre .1 .1)))
+
+span-requires : tie.Need-span-requires
+span-requires c κs = passing (c .before .before .before)
+
+count-pieces-requires : tie.Need-count-pieces-requires
+count-pieces-requires c κs =
+    let known = c .before .before .before .before in
+    (passing known, (c .span .ensures .order, known .before .pre .1 .0))
+
+mul-plan-bytes : tie.Need-mul-plan-bytes
+mul-plan-bytes c = search needs
+
+refusal-requires : tie.Need-refusal-requires
+refusal-requires c κs = search needs
+
+returns : tie.Need-returns
+returns c =
+    let counted = c .before .before in
+    let span = counted .before in
+    let known = span .before .before .before .before in
+    let start = known .before in
+    compacts-refusal _ _ _ _ _
+    (first-short-plan _ (bytes known) (start .pre .0 .0) _ (start .pre .1 .1) _ _ (span .span .ensures) _ (start .args .new-id) _ _ (counted .count-pieces .ensures .0) refl (now (start .args .plan)) (now (start .args .new-list)) (c .before .if1 .taken))
+    (c .refusal .ensures)
+
+stand-in-bytes-requires : tie.Need-stand-in-bytes-requires
+stand-in-bytes-requires c κs = search needs
+
+sub-list-bytes : tie.Need-sub-list-bytes
+unfolding count
+sub-list-bytes c =
+    let start = c .before .before .before .before .before .before .before .before in
+    omega (arith, start .pre .1 .1)
+
+add-list-bytes : tie.Need-add-list-bytes
+unfolding count
+add-list-bytes c =
+    let span = c .before .before .before in
+    let start = span .before .before .before .before .before in
+    omega (arith, start .pre .0 .1, c .stand-in-bytes .ensures, stand-most (span .span .result .from) (span .span .result .end) (start .args .new-id))
+
+refusal-requires-2 : tie.Need-refusal-requires-2
+refusal-requires-2 c κs = search needs
+
+returns-2 : tie.Need-returns-2
+returns-2 c =
+    let new = c .before .before in
+    let counted = new .before .before in
+    let span = counted .before in
+    let known = span .before .before .before .before in
+    let start = known .before in
+    compacts-refusal _ _ _ _ _
+    (first-short-list _ (bytes known) (start .pre .0 .0) _ (start .pre .1 .1) _ _ (span .span .ensures) _ (start .args .new-id) _ _ (counted .count-pieces .ensures .0) (new .stand-in-bytes .ensures) (now (start .args .plan)) (now (start .args .new-list)) (new .before .if1 .left) (c .before .if2 .taken))
+    (c .refusal2 .ensures)
+
+write-pieces-requires : tie.Need-write-pieces-requires
+write-pieces-requires c κs =
+    let new = c .before .before in
+    let counted = new .before .before in
+    let span = counted .before in
+    let known = span .before .before .before .before in
+    (passing known, (span .span .ensures .order, (known .before .pre .1 .0, pieces-room _ _ _ (counted .count-pieces .ensures .0) (new .before .if1 .left))))
+
+write-list-requires : tie.Need-write-list-requires
+unfolding count
+write-list-requires c κs =
+    let room = c .before .before .before .before .before in
+    let new = room .before in
+    let start = new .before .before .before .before .before .before .before .before in
+    (omega (arith, start .pre .1 .1), omega (arith, new .stand-in-bytes .ensures, room .if2 .left))
+
+same-length : tie.Need-same-length
+same-length c = search needs
+
+same-length-2 : tie.Need-same-length-2
+same-length-2 c = search needs
+
+returns-3 : tie.Need-returns-3
+returns-3 c =
+    let listed = c .before .before in
+    let planned = listed .before .before .before .before in
+    let room = planned .before .before in
+    let new = room .before in
+    let counted = new .before .before in
+    let span = counted .before in
+    let known = span .before .before .before .before in
+    let start = known .before in
+    first-done _ (bytes known) (start .pre .0 .0) _ (start .pre .1 .1) _ _ (span .span .ensures) _ (start .args .new-id) _ _ (counted .count-pieces .ensures .0) (new .stand-in-bytes .ensures) _ _
+    (new .before .if1 .left) (room .if2 .left) _ _ (planned .write-pieces .ensures) (listed .write-list .ensures)
+
+pub compact-first-spec : {M : Type 1} → statement M
+compact-first-spec =
+    tie.close
+    (tie.spec
+    mul-cut
+    slice-aggregate-firsts
+    span-requires
+    count-pieces-requires
+    mul-plan-bytes
+    refusal-requires
+    returns
+    stand-in-bytes-requires
+    sub-list-bytes
+    add-list-bytes
+    refusal-requires-2
+    returns-2
+    write-pieces-requires
+    write-list-requires
+    same-length
+    same-length-2
+    returns-3)

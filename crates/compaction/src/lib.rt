@@ -1,0 +1,115 @@
+// Compaction: the first records of a list give way to one record of a new slice.
+mod ends;
+mod ids;
+mod new_list;
+
+use blocks::block_allowed;
+use plans::PIECE;
+use plans::walk;
+use slices::Checked;
+use slices::RECORD;
+use slices::Refusal;
+use slices::check;
+use slices::refusals;
+ghost use mathlib.Core.Path.{_≡_};
+ghost use Prim.Native.Nat.{_%_, _<_, _≤_};
+ghost use lib.ListN.{length};
+ghost use Rattle.codec.specs.All.{All};
+ghost use Rattle.slices.specs.Limits.{recordSize, maxRecords};
+ghost use Rattle.slices.specs.Outcome.{done, firstOf};
+ghost use Rattle.slices.specs.Passes.{Passes};
+ghost use Rattle.slices.specs.Record.{count, records};
+ghost use Rattle.compaction.specs.Calls.{written, delivered, laterRows, compactOutcome, Compacts};
+
+// What the call answers: the numbers of bytes of the plan and of the new list, or the refusal.
+pub enum Compacted {
+    Wrote { plan: usize, list: usize },
+    Refused(Refusal),
+}
+
+// The positions from `from` up to, but without, `end`.
+struct Span {
+    from: u32,
+    end: u32,
+}
+
+// Answers with the plan and the new list of a compaction that is not refused before: both lengths are known before either buffer is touched.
+fn compact_first(
+    list: &[u8],
+    block: u32,
+    k: usize,
+    new_id: u64,
+    plan: &mut [u8],
+    new_list: &mut [u8],
+) -> Compacted
+    requires { ⌜ (length (now list) % recordSize ≡ 0) × (count (now list) ≤ maxRecords) × All Passes (records (now list)) ⌝ }
+    requires { ⌜ 0 < block ⌝ }
+    requires { ⌜ k ≤ count (now list) ⌝ }
+    ensures { λ r. ⌜ Compacts (delivered (written block (records (now (list .entry))) k «new_id») (length (now (plan .entry))) (length (now («new_list» .entry)))) (now (plan .entry)) (now («new_list» .entry)) r (now (plan .exit)) (now («new_list» .exit)) ⌝ }
+{
+    let cut = k * RECORD;
+    let firsts = &list[..cut];
+    let span = ends::span(firsts);
+    let from = span.from;
+    let end = span.end;
+    let plan_bytes = walk::count_pieces(firsts, from, end, block) * PIECE;
+    if plan.len() < plan_bytes {
+        return Compacted::Refused(refusals::refusal(refusals::SHORT_BUFFER));
+    }
+    let list_bytes = new_list::stand_in_bytes(from, end, new_id) + (list.len() - cut);
+    if new_list.len() < list_bytes {
+        return Compacted::Refused(refusals::refusal(refusals::SHORT_BUFFER));
+    }
+    walk::write_pieces(firsts, from, end, block, plan);
+    new_list::write_list(list, cut, from, end, new_id, new_list);
+    Compacted::Wrote {
+        plan: plan_bytes,
+        list: list_bytes,
+    }
+}
+
+// Compacts an accepted list.
+fn compact_accepted(
+    list: &[u8],
+    block: u32,
+    k: u64,
+    new_id: u64,
+    plan: &mut [u8],
+    new_list: &mut [u8],
+) -> Compacted
+    requires { ⌜ (length (now list) % recordSize ≡ 0) × (count (now list) ≤ maxRecords) × All Passes (records (now list)) ⌝ }
+    requires { ⌜ 0 < block ⌝ }
+    ensures { λ r. ⌜ Compacts (firstOf (laterRows (records (now (list .entry))) block k «new_id» (length (now (plan .entry))) (length (now («new_list» .entry)))) (done (written block (records (now (list .entry))) k «new_id»))) (now (plan .entry)) (now («new_list» .entry)) r (now (plan .exit)) (now («new_list» .exit)) ⌝ }
+{
+    if ((list.len() / RECORD) as u64) < k {
+        return Compacted::Refused(refusals::refusal(refusals::TOO_FEW));
+    }
+    if ids::in_use(list, new_id) {
+        return Compacted::Refused(refusals::refusal(refusals::ID_IN_USE));
+    }
+    compact_first(list, block, k as usize, new_id, plan, new_list)
+}
+
+// Writes the plan by which the first k records of a list are copied into a new slice, with objects of the given block size, and the new list,
+// in which one record of that slice stands for them.
+pub fn compact(
+    list: &[u8],
+    block_size: u64,
+    k: u64,
+    new_id: u64,
+    plan: &mut [u8],
+    new_list: &mut [u8],
+) -> Compacted
+    ensures { λ r. ⌜ Compacts (compactOutcome (now (list .entry)) «block_size» k «new_id» (length (now (plan .entry))) (length (now («new_list» .entry)))) (now (plan .entry)) (now («new_list» .entry)) r (now (plan .exit)) (now («new_list» .exit)) ⌝ }
+{
+    if block_allowed(block_size) {
+        match check::check_list(list) {
+            Checked::Refused(refusal) => Compacted::Refused(refusal),
+            Checked::Accepted(_) => {
+                compact_accepted(list, block_size as u32, k, new_id, plan, new_list)
+            }
+        }
+    } else {
+        Compacted::Refused(refusals::refusal(refusals::BLOCK_SIZE))
+    }
+}

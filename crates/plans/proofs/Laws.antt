@@ -1,0 +1,9 @@
+-- Laws of the definitions of specs/.
+pub mod Places
+pub mod Pieces
+pub mod Walk
+pub mod Calls
+pub mod Divide
+pub mod Fits
+pub mod Bytes
+pub mod Answered

@@ -1,0 +1,105 @@
+-- Laws of pieces as bytes: how many there are, their parts as the code writes them, and that a plan that is written is read back.
+-- Assumes nothing.
+use Prim.Native.Nat.{ℕ, zero, suc, _+_, _*_, _/_, _^_, _<_}
+use native.Mathlib.Omega.{arith}
+use native.Mathlib.Nat.{add-zero, add-assoc}
+use mathlib.Core.Path.{_≡_, refl, sym, ap, _∙_}
+use mathlib.Core.List.{List, [], _∷_, _++_, append-assoc, append-nil, flatMap}
+use lib.ListN.{length, length-append}
+use Rattle.codec.specs.All.{All}
+use Rattle.codec.specs.Fixed.{bigEndian, numberAt}
+use Rattle.codec.proofs.Laws.Fixed.{length-bigEndian, numberAt-behind, number-back}
+use Rattle.plans.specs.Piece.{pieceSize, encodePiece, encodePieces, decodePiece, piecesFrom, piecesIn, PieceFits}
+use Rattle.plans.specs.Steps.{encodeObject}
+use Rattle.plans.specs.declared.Piece.{Piece}
+
+pub length-encodeObject : (p : Piece) → length (encodeObject p) ≡ 20
+unfolding encodeObject
+length-encodeObject p = simp (length-append, length-bigEndian)
+
+-- mark, place, where in the store, length
+pub encode-parts : (p : Piece) → bigEndian 2 (p .mark) ++ (bigEndian 4 (p .place) ++ (encodeObject p ++ bigEndian 4 (p .len))) ≡ encodePiece p
+unfolding encodePiece encodeObject
+encode-parts p = simp append-assoc
+
+pub length-encodePiece : (p : Piece) → length (encodePiece p) ≡ pieceSize
+unfolding encodePiece
+length-encodePiece p = simp (length-append, length-bigEndian)
+
+pub length-encodePieces : (ps : List Piece) → length (encodePieces ps) ≡ length ps * pieceSize
+unfolding encodePieces flatMap
+length-encodePieces [] = refl
+length-encodePieces (p ∷ ps) = length-append (encodePiece p) (encodePieces ps) ∙ omega (arith, length-encodePiece p, length-encodePieces ps)
+
+-- ---- one piece
+
+-- a field behind `pre`, of k bytes, is read back
+field-back : (pre : List ℕ) (at k x : ℕ) (rest : List ℕ) → length pre ≡ at → x < 256 ^ k → numberAt (pre ++ (bigEndian k x ++ rest)) at k ≡ x
+field-back pre at k x rest e h =
+    ap (λ (n : ℕ). numberAt (pre ++ (bigEndian k x ++ rest)) n k) (sym e ∙ sym (add-zero (length pre)))
+    ∙ numberAt-behind pre (bigEndian k x ++ rest) 0 k
+    ∙ number-back k x rest h
+
+decode-encode : (p : Piece) (rest : List ℕ) → PieceFits p → decodePiece (encodePiece p ++ rest) 0 ≡ p
+unfolding decodePiece encodePiece
+decode-encode p rest h =
+    let a = bigEndian 2 (p .mark) in
+    let b = bigEndian 4 (p .place) in
+    let c = bigEndian 8 (p .id) in
+    let d = bigEndian 4 (p .block) in
+    let e = bigEndian 4 (p .length) in
+    let f = bigEndian 4 (p .at) in
+    let g = bigEndian 4 (p .len) in
+    let la = length-bigEndian 2 (p .mark) in
+    let lb = length-bigEndian 4 (p .place) in
+    let lc = length-bigEndian 8 (p .id) in
+    let ld = length-bigEndian 4 (p .block) in
+    let le = length-bigEndian 4 (p .length) in
+    let lf = length-bigEndian 4 (p .at) in
+    let mark = field-back [] 0 2 (p .mark) (b ++ (c ++ (d ++ (e ++ (f ++ (g ++ rest)))))) refl (h .mark) in
+    let place = field-back a 2 4 (p .place) (c ++ (d ++ (e ++ (f ++ (g ++ rest))))) la (h .place) in
+    let id = simp append-assoc at (field-back (a ++ b) 6 8 (p .id) (d ++ (e ++ (f ++ (g ++ rest)))) (simp length-append (omega arith)) (h .id)) in
+    let block = simp append-assoc at (field-back (a ++ (b ++ c)) 14 4 (p .block) (e ++ (f ++ (g ++ rest))) (simp length-append (omega arith)) (h .block)) in
+    let length = simp append-assoc at (field-back (a ++ (b ++ (c ++ d))) 18 4 (p .length) (f ++ (g ++ rest)) (simp length-append (omega arith)) (h .length)) in
+    let at = simp append-assoc at (field-back (a ++ (b ++ (c ++ (d ++ e)))) 22 4 (p .at) (g ++ rest) (simp length-append (omega arith)) (h .at)) in
+    let len = simp append-assoc at (field-back (a ++ (b ++ (c ++ (d ++ (e ++ f))))) 26 4 (p .len) rest (simp length-append (omega arith)) (h .len)) in
+    simp append-assoc (λ i. record { mark = mark i; place = place i; id = id i; block = block i; length = length i; at = at i; len = len i })
+
+-- a piece that is written is read back
+pub piece-back : (p : Piece) → PieceFits p → decodePiece (encodePiece p) 0 ≡ p
+piece-back p h = ap (λ (bs : List ℕ). decodePiece bs 0) (sym (append-nil (encodePiece p))) ∙ decode-encode p [] h
+
+-- ---- a plan
+
+-- what stands in front of a piece does not count
+decode-behind : (pre bs : List ℕ) (at : ℕ) → decodePiece (pre ++ bs) (length pre + at) ≡ decodePiece bs at
+unfolding decodePiece
+decode-behind pre bs at = simp (add-assoc, numberAt-behind pre bs)
+
+behind : (pre bs : List ℕ) → length pre ≡ pieceSize → (i n : ℕ) → piecesFrom (pre ++ bs) (suc i) n ≡ piecesFrom bs i n
+unfolding piecesFrom
+behind pre bs h i zero = refl
+behind pre bs h i (suc n) =
+    let e : suc i * pieceSize ≡ length pre + i * pieceSize = omega arith in
+    let t : piecesFrom (pre ++ bs) (suc (suc i)) n ≡ piecesFrom bs (suc i) n = behind pre bs h (suc i) n in
+    let d : decodePiece (pre ++ bs) (suc i * pieceSize) ≡ decodePiece bs (i * pieceSize) = rw e (decode-behind pre bs (i * pieceSize)) in
+    cc
+
+-- the piece in front, and the others
+pieces-cons : (pre bs : List ℕ) → length pre ≡ pieceSize → piecesIn (pre ++ bs) ≡ decodePiece (pre ++ bs) 0 ∷ piecesIn bs
+unfolding piecesIn piecesFrom
+pieces-cons pre bs h =
+    let e : length (pre ++ bs) / pieceSize ≡ suc (length bs / pieceSize) = rw length-append (omega arith) in
+    rw e (ap (λ (ps : List Piece). decodePiece (pre ++ bs) 0 ∷ ps) (behind pre bs h 0 (length bs / pieceSize)))
+
+pieces-none : piecesIn [] ≡ []
+unfolding piecesIn piecesFrom
+pieces-none = refl
+
+-- a plan that is written is read back
+pub pieces-back : (ps : List Piece) → All PieceFits ps → piecesIn (encodePieces ps) ≡ ps
+unfolding encodePieces flatMap
+pieces-back [] f = pieces-none
+pieces-back (p ∷ ps) f =
+    pieces-cons (encodePiece p) (encodePieces ps) (length-encodePiece p)
+    ∙ rw (decode-encode p (encodePieces ps) (f .0), pieces-back ps (f .1))

@@ -1,0 +1,109 @@
+-- `plans::read_plan` meets its contract: each answer is that of its case. Assumes nothing.
+use Prim.Native.Nat.{_≤_}
+use native.Mathlib.Omega.{arith}
+use mathlib.Core.Path.{_≡_, sym, _∙_}
+use denote.Ref.{now}
+use Rattle.slices.specs.Limits.{chunk}
+use Rattle.slices.specs.Refusals.{checkOutcome, checked}
+use Rattle.slices.specs.declared.Checked.the-variants.{Accepted}
+use Rattle.slices.proofs.Laws.Outcome.{answers-refused, answers-refusal, answers-as}
+use Rattle.slices.proofs.Laws.Refusals.{check-accepts}
+use Rattle.blocks.specs.Blocks.{smallest, largest}
+use Rattle.blocks.proofs.Laws.Blocks.{block-range}
+use Rattle.plans.proofs.Laws.Calls.{read-7, read-8, read-refused, read-accepted}
+use borrow.Author.Needs.{needs}
+use Rattle.plans.proofs.read_plan.Statement.{statement}
+use Rattle.plans.proofs.read_plan.Tie as tie
+
+-- the list is accepted
+accepted : (c : tie.After-enum-told) → checked (checkOutcome (now (c .before .before .before .before .before .before .before .before .args .list))) ≡ Accepted (c .enum-told .given .0 .0)
+accepted c = sym (c .before .before .check-list .ensures) ∙ c .enum-told .given .1
+
+-- the block size is in range
+ranged : (c : tie.Then2) → (smallest ≤ c .before .before .before .before .before .args .block-size) × (c .before .before .before .before .before .args .block-size ≤ largest)
+ranged c = block-range _ (sym (c .before .block-allowed .ensures) ∙ c .if2 .taken)
+
+cast-if1 : tie.Need-cast-if1
+cast-if1 c = search needs
+
+refusal-requires : tie.Need-refusal-requires
+refusal-requires c κs = search needs
+
+returns : tie.Need-returns
+unfolding chunk
+returns c = answers-refusal _ _ _ _ (read-7 _ _ _ _ _ _ (c .before .if1 .taken)) (c .refusal .ensures)
+
+block-allowed-requires : tie.Need-block-allowed-requires
+block-allowed-requires c κs = search needs
+
+check-list-requires : tie.Need-check-list-requires
+check-list-requires c κs = search needs
+
+enum-known-refusal : tie.Need-enum-known-refusal
+enum-known-refusal c = search needs
+
+enum-told : tie.Need-enum-told
+enum-told c = search needs
+
+cut-requires : tie.Need-cut-requires
+unfolding chunk
+cut-requires c κs = omega arith
+
+cast-answer-pieces : tie.Need-cast-answer-pieces
+cast-answer-pieces c = omega (arith, ranged (c .before .before .before .before))
+
+answer-pieces-requires : tie.Need-answer-pieces-requires
+answer-pieces-requires c κs =
+    let cut = c .before in
+    let told = cut .before in
+    (check-accepts _ _ (accepted told) .pass, (cut .cut .ensures .order, omega (arith, ranged (told .before .before .before))))
+
+refusal-requires-2 : tie.Need-refusal-requires-2
+refusal-requires-2 c κs = search needs
+
+returns-2 : tie.Need-returns-2
+unfolding chunk
+returns-2 c =
+    let checked = c .before .before .before in
+    let tested = checked .before in
+    answers-refused _ _ _ (read-refused _ _ _ _ _ _ (tested .before .before .if1 .left) _ (tested .before .block-allowed .ensures) (tested .if2 .taken) _ (sym (checked .check-list .ensures) ∙ c .before .refusal2 .given .1))
+
+same-length : tie.Need-same-length
+same-length c = search needs
+
+returns-3 : tie.Need-returns-3
+unfolding chunk
+returns-3 c =
+    let answered = c .before .before in
+    let cut = answered .before .before in
+    let told = cut .before in
+    let tested = told .before .before .before in
+    answers-as _ _ _ _ _
+    (read-accepted _ _ _ _ _ _ (tested .before .before .if1 .left) _ (tested .before .block-allowed .ensures) (tested .if2 .taken) _ (accepted told) _ _ (cut .cut .ensures))
+    (answered .answer-pieces .ensures)
+
+returns-4 : tie.Need-returns-4
+unfolding chunk
+returns-4 c =
+    let tested = c .before in
+    answers-refusal _ _ _ _ (read-8 _ _ _ _ _ _ (tested .before .before .if1 .left) _ (tested .before .block-allowed .ensures) (tested .if2 .left)) (c .refusal3 .ensures)
+
+pub read-plan-spec : {M : Type 1} → statement M
+read-plan-spec =
+    tie.close
+    (tie.spec
+    cast-if1
+    refusal-requires
+    returns
+    block-allowed-requires
+    check-list-requires
+    enum-known-refusal
+    enum-told
+    cut-requires
+    cast-answer-pieces
+    answer-pieces-requires
+    refusal-requires-2
+    returns-2
+    same-length
+    returns-3
+    returns-4)

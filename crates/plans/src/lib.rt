@@ -1,0 +1,101 @@
+// Where the bytes of a read lie, in maximal pieces.
+pub mod pieces;
+pub mod places;
+pub mod walk;
+
+use blocks::block_allowed;
+use slices::Answer;
+use slices::CHUNK;
+use slices::Checked;
+use slices::check;
+use slices::refusals;
+ghost use Prim.Native.Nat.{_≤_};
+ghost use lib.ListN.{length};
+ghost use Rattle.slices.specs.Limits.{chunk};
+ghost use Rattle.slices.specs.Outcome.{Answers};
+ghost use Rattle.plans.specs.Calls.{readOutcome};
+ghost use Rattle.plans.specs.Steps.{Cut};
+
+// The bytes of a piece.
+pub const PIECE: usize = 30;
+
+// Where a byte is read: as zero, or from an object at a place in its block.
+pub enum Place {
+    Hole,
+    In {
+        id: u64,
+        block: u32,
+        length: u32,
+        at: u32,
+    },
+}
+
+// A run of places: its first, and the position after its last.
+pub struct PlaceRun {
+    pub first: Place,
+    pub end: u32,
+}
+
+// A piece of a plan, as its 30 bytes say it.
+pub struct Piece {
+    pub mark: u16,
+    pub place: u32,
+    pub id: u64,
+    pub block: u32,
+    pub length: u32,
+    pub at: u32,
+    pub len: u32,
+}
+
+// The positions from `from` up to, but without, `end`.
+struct Span {
+    from: u32,
+    end: u32,
+}
+
+// The positions of a read of `count` bytes from `start`, for a chunk of l bytes. The sum of start and count is never made.
+fn cut(l: u64, start: u64, count: u64) -> Span
+    requires { ⌜ l ≤ chunk ⌝ }
+    ensures { λ r. ⌜ Cut l start count (r .from) (r .end) ⌝ }
+{
+    if l <= start {
+        return Span { from: 0, end: 0 };
+    }
+    if count < l - start {
+        return Span {
+            from: start as u32,
+            end: (start + count) as u32,
+        };
+    }
+    Span {
+        from: start as u32,
+        end: l as u32,
+    }
+}
+
+// Writes the plan of a read of `count` bytes from `start`, for a chunk of the given length, with objects of the given block size.
+pub fn read_plan(
+    list: &[u8],
+    chunk_len: u64,
+    block_size: u64,
+    start: u64,
+    count: u64,
+    out: &mut [u8],
+) -> Answer
+    ensures { λ r. ⌜ Answers (readOutcome (now (list .entry)) «chunk_len» «block_size» start count (length (now (out .entry)))) (now (out .entry)) r (now (out .exit)) ⌝ }
+{
+    if (CHUNK as u64) < chunk_len {
+        return Answer::Refused(refusals::refusal(refusals::CHUNK_TOO_LONG));
+    }
+    if block_allowed(block_size) {
+        match check::check_list(list) {
+            Checked::Refused(refusal) => Answer::Refused(refusal),
+            Checked::Accepted(_) => {
+                let read = cut(chunk_len, start, count);
+                walk::answer_pieces(list, read.from, read.end, block_size as u32, out)
+            }
+        }
+    } else {
+        Answer::Refused(refusals::refusal(refusals::BLOCK_SIZE))
+    }
+}
