@@ -1,0 +1,204 @@
+/*
+ * Ezumokarin: slice lists, read plans, compaction plans, object names and chunk keys of a
+ * JuiceFS volume (metadata v1).
+ *
+ * Any bytes and any numbers may be passed. Each call ends with an answer or with one of
+ * the refusals below. A refused call changes no byte of any buffer. A successful call
+ * writes its answer at the front of the buffer and leaves the rest as it was. The library
+ * keeps no pointer and has no state.
+ *
+ * A pointer must be good for as many bytes as the length beside it; with length 0 it may
+ * be NULL. Buffers to be written may overlap neither each other nor the inputs.
+ *
+ * Refusals. `place` is the place of the record in its list, counted from 0, for 3 to 6;
+ * for all others it is 0. Where several fit, the first in this order is given:
+ * 7, 8, 1, 2, the first bad record and in it 3, 4, 5, 6; then 10, 9, 13, 11, 12.
+ *
+ *   EZK_LIST_LENGTH     1  list length is no multiple of 24
+ *   EZK_LIST_RECORDS    2  more than 1,024 records
+ *   EZK_RECORD_END      3  pos + len above 64 MiB
+ *   EZK_SLICE_SIZE      4  size above 64 MiB
+ *   EZK_ZERO_RECORD     5  id 0 with size or off other than 0
+ *   EZK_SLICE_END       6  id not 0 and off + len above size
+ *   EZK_CHUNK_LENGTH    7  chunk length above 64 MiB
+ *   EZK_BLOCK_SIZE      8  block size not allowed: not a power of two from 65,536 to 16,777,216
+ *   EZK_NEW_ID          9  new id is 0 or stands in any record of the list, empty ones included
+ *   EZK_FIRST_RECORDS  10  k above the number of records
+ *   EZK_TIDIED_RECORDS 11  tidied list above 1,024 records
+ *   EZK_BUFFER         12  an output buffer shorter than its answer (either, in compaction)
+ *   EZK_FORM           13  a name or key not of its form, or numbers that the form doesn't allow
+ */
+#ifndef EZUMOKARIN_H
+#define EZUMOKARIN_H
+
+#include <stddef.h>
+#include <stdint.h>
+
+#ifdef __cplusplus
+extern "C" {
+#endif
+
+enum {
+    EZK_DONE = 0,
+    EZK_LIST_LENGTH = 1,
+    EZK_LIST_RECORDS = 2,
+    EZK_RECORD_END = 3,
+    EZK_SLICE_SIZE = 4,
+    EZK_ZERO_RECORD = 5,
+    EZK_SLICE_END = 6,
+    EZK_CHUNK_LENGTH = 7,
+    EZK_BLOCK_SIZE = 8,
+    EZK_NEW_ID = 9,
+    EZK_FIRST_RECORDS = 10,
+    EZK_TIDIED_RECORDS = 11,
+    EZK_BUFFER = 12,
+    EZK_FORM = 13
+};
+
+/* Bytes of a chunk, of a slice record, of a piece of a plan, and of a TKV chunk key. */
+enum {
+    EZK_CHUNK = 67108864,
+    EZK_RECORD = 24,
+    EZK_PIECE = 30,
+    EZK_TKV_KEY = 14
+};
+
+/*
+ * A slice record has 24 bytes, big-endian: pos (4), id (8), size (4), off (4), len (4).
+ * It covers positions pos up to, but without, pos + len. Id 0 is zeros, with size and off
+ * 0; any other id is slice bytes from slice offset off on, of a slice of size bytes.
+ * Records stand in order of writing; a later one wins.
+ *
+ * A piece of a plan has 30 bytes: a mark of two bytes, "RB" for an object or "RZ" for
+ * zeros, then big-endian: place from the start of the read (4), id (8), block (4), block
+ * length (4), place in block (4), length (4). For "RZ" the id, block, block length and
+ * place in block are 0.
+ */
+
+/* In all structs: refusal is 0 on success, and fields without meaning are 0. */
+
+/* What most calls return. */
+typedef struct ezk_answer {
+    uint64_t refusal;
+    uint64_t place;
+    uint64_t count; /* bytes written, or records found */
+} ezk_answer;
+
+/* What compaction returns. */
+typedef struct ezk_compacted {
+    uint64_t refusal;
+    uint64_t place;
+    uint64_t plan; /* bytes of the plan */
+    uint64_t list; /* bytes of the new list */
+} ezk_compacted;
+
+/* What the readers of object names return. */
+typedef struct ezk_object {
+    uint64_t refusal;
+    uint64_t place;
+    uint64_t id;     /* the slice */
+    uint64_t block;  /* number of the block in its slice */
+    uint64_t length; /* block length */
+    uint64_t volume; /* length of the volume name at the front of the text; 0 in a short name */
+} ezk_object;
+
+/* What the readers of chunk keys return. */
+typedef struct ezk_chunk_key {
+    uint64_t refusal;
+    uint64_t place;
+    uint64_t inode;
+    uint64_t index;
+} ezk_chunk_key;
+
+/*
+ * Checks a list; count is its number of records.
+ * Refusals, in order: 1, 2, 3 to 6.
+ */
+ezk_answer ezk_check(const uint8_t *list, size_t list_len);
+
+/*
+ * Writes the resolved view of positions 0 up to chunk_len: maximal runs, ascending, without
+ * gaps, each as a record. Uncovered bytes have id 0, size = len, off 0; zeros have id 0,
+ * size 0, off 0; slice bytes have their id and size and the first slice offset. A list of
+ * n records has a view of at most 2n + 1 records.
+ * Refusals, in order: 7, 1, 2, 3 to 6, 12.
+ */
+ezk_answer ezk_view(const uint8_t *list, size_t list_len, uint64_t chunk_len,
+                    uint8_t *out, size_t out_len);
+
+/*
+ * Writes the tidied list: the view of the whole chunk without its uncovered runs.
+ * Refusals, in order: 1, 2, 3 to 6, 11, 12.
+ */
+ezk_answer ezk_tidy(const uint8_t *list, size_t list_len, uint8_t *out, size_t out_len);
+
+/*
+ * Writes the plan of a read of count bytes from start, cut to chunk_len: pieces that read
+ * as zero or lie in one object at consecutive places. A start at or past chunk_len, or a
+ * count of 0, gives an empty plan.
+ * Refusals, in order: 7, 8, 1, 2, 3 to 6, 12.
+ */
+ezk_answer ezk_read_plan(const uint8_t *list, size_t list_len, uint64_t chunk_len,
+                         uint64_t block_size, uint64_t start, uint64_t count,
+                         uint8_t *out, size_t out_len);
+
+/*
+ * Writes the plan that copies the first k records into the new slice new_id, and the new
+ * list: one record in their stead, and the remaining records. If the first k records cover
+ * nothing, the plan is empty and the new list is the remaining records. The new list takes
+ * effect only once the plan has been copied into the objects of the new slice.
+ * Refusals, in order: 8, 1, 2, 3 to 6, 10, 9, 12.
+ */
+ezk_compacted ezk_compact(const uint8_t *list, size_t list_len, uint64_t block_size,
+                          uint64_t k, uint64_t new_id, uint8_t *plan, size_t plan_len,
+                          uint8_t *new_list, size_t new_list_len);
+
+/*
+ * Writes an object name, chunks/{id/1000/1000}/{id/1000}/{id}_{block}_{length}, without a
+ * zero byte at the end. Id from 1, block 0 to 1,023, length 1 to 16,777,216.
+ * Refusals, in order: 13, 12.
+ */
+ezk_answer ezk_write_object_name(uint64_t id, uint64_t block, uint64_t length,
+                                 uint8_t *out, size_t out_len);
+
+/*
+ * Writes a full name: a volume name of 1 to 63 bytes of a-z, 0-9 and hyphen, a slash, and
+ * the object name.
+ * Refusals, in order: 13, 12.
+ */
+ezk_answer ezk_write_full_name(const uint8_t *volume, size_t volume_len, uint64_t id,
+                               uint64_t block, uint64_t length, uint8_t *out, size_t out_len);
+
+/* Reads an object name; a full name is refused. Refusal: 13. */
+ezk_object ezk_read_object_name(const uint8_t *name, size_t name_len);
+
+/*
+ * Reads a full name; an object name alone is refused. The volume name is the first volume
+ * bytes of the text. Refusal: 13.
+ */
+ezk_object ezk_read_full_name(const uint8_t *name, size_t name_len);
+
+/*
+ * Writes a Redis chunk key, c{inode}_{index}; index below 2^32.
+ * Refusals, in order: 13, 12.
+ */
+ezk_answer ezk_write_redis_key(uint64_t inode, uint64_t index, uint8_t *out, size_t out_len);
+
+/*
+ * Writes a TKV chunk key of 14 bytes: 'A', inode in 8 bytes little-endian, 'C', index in 4
+ * bytes big-endian; index below 2^32.
+ * Refusals, in order: 13, 12.
+ */
+ezk_answer ezk_write_tkv_key(uint64_t inode, uint64_t index, uint8_t *out, size_t out_len);
+
+/* Reads a Redis chunk key. Refusal: 13. */
+ezk_chunk_key ezk_read_redis_key(const uint8_t *key, size_t key_len);
+
+/* Reads a TKV chunk key. Refusal: 13. */
+ezk_chunk_key ezk_read_tkv_key(const uint8_t *key, size_t key_len);
+
+#ifdef __cplusplus
+}
+#endif
+
+#endif

@@ -1,0 +1,60 @@
+//! A call as data: what goes in, and how much room is lent.
+
+/// The room of a lent buffer, told by the length of the answer.
+#[derive(Clone, Copy, Debug)]
+pub enum Room {
+    Right,
+    OneShort,
+    Empty,
+    Longer(usize),
+    Bytes(usize),
+}
+
+impl Room {
+    pub fn bytes(self, answer: usize) -> usize {
+        match self {
+            Room::Right => answer,
+            Room::OneShort => answer.saturating_sub(1),
+            Room::Empty => 0,
+            Room::Longer(more) => answer + more,
+            Room::Bytes(count) => count,
+        }
+    }
+}
+
+#[derive(Clone, Debug)]
+pub enum Call {
+    Check { list: Vec<u8> },
+    View { list: Vec<u8>, chunk_len: u64, out: Room },
+    Tidy { list: Vec<u8>, out: Room },
+    ReadPlan { list: Vec<u8>, chunk_len: u64, block_size: u64, start: u64, count: u64, out: Room },
+    Compact { list: Vec<u8>, block_size: u64, k: u64, new_id: u64, plan: Room, new_list: Room },
+    WriteObjectName { id: u64, block: u64, length: u64, out: Room },
+    WriteFullName { volume: Vec<u8>, id: u64, block: u64, length: u64, out: Room },
+    ReadObjectName { name: Vec<u8> },
+    ReadFullName { name: Vec<u8> },
+    WriteRedisKey { inode: u64, index: u64, out: Room },
+    WriteTkvKey { inode: u64, index: u64, out: Room },
+    ReadRedisKey { key: Vec<u8> },
+    ReadTkvKey { key: Vec<u8> },
+}
+
+impl Call {
+    pub fn name(&self) -> &'static str {
+        match self {
+            Call::Check { .. } => "check",
+            Call::View { .. } => "view",
+            Call::Tidy { .. } => "tidy",
+            Call::ReadPlan { .. } => "read_plan",
+            Call::Compact { .. } => "compact",
+            Call::WriteObjectName { .. } => "write_object_name",
+            Call::WriteFullName { .. } => "write_full_name",
+            Call::ReadObjectName { .. } => "read_object_name",
+            Call::ReadFullName { .. } => "read_full_name",
+            Call::WriteRedisKey { .. } => "write_redis_key",
+            Call::WriteTkvKey { .. } => "write_tkv_key",
+            Call::ReadRedisKey { .. } => "read_redis_key",
+            Call::ReadTkvKey { .. } => "read_tkv_key",
+        }
+    }
+}

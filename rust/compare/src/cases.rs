@@ -1,0 +1,115 @@
+//! The calls that the papers speak of, and limits from both sides. Their values are tested
+//! in the second program.
+
+use second::limits::CHUNK;
+use second::Record;
+
+use crate::call::{Call, Room};
+
+const MIB: u64 = 1_048_576;
+const BLOCK: u64 = 4_194_304;
+
+pub fn all() -> Vec<Call> {
+    [lists(), list_of_000(), tidied_to_the_limit(), names(), keys()].concat()
+}
+
+fn list(rows: &[(u64, u64, u64, u64, u64)]) -> Vec<u8> {
+    rows.iter().flat_map(|r| Record::new(r.0, r.1, r.2, r.3, r.4).to_bytes()).collect()
+}
+
+/// Every call that takes a list, with this one.
+fn with(list: Vec<u8>) -> Vec<Call> {
+    let (chunk_len, block_size, out) = (CHUNK, BLOCK, Room::Right);
+    let (start, count) = (0, CHUNK);
+    vec![
+        Call::Check { list: list.clone() },
+        Call::View { list: list.clone(), chunk_len, out },
+        Call::Tidy { list: list.clone(), out },
+        Call::ReadPlan { list: list.clone(), chunk_len, block_size, start, count, out },
+        Call::Compact { list, block_size, k: 1, new_id: 1_000, plan: out, new_list: out },
+    ]
+}
+
+fn lists() -> Vec<Call> {
+    let empty = |chunk_len| Call::View { list: Vec::new(), chunk_len, out: Room::Right };
+    let mut calls = vec![empty(0), empty(5)];
+    for length in [0, 23, 24, 25, 24_576, 24_600, 24_601] {
+        calls.extend(with(vec![0; length]));
+    }
+    for row in
+        [(67_108_863, 0, 0, 0, 1), (67_108_863, 0, 0, 0, 2), (0, 7, 10, 4, 6), (0, 7, 10, 4, 7)]
+    {
+        calls.extend(with(list(&[row])));
+    }
+    calls.extend(with(list(&[(0, 7, 20, 0, 20), (4, 0, 0, 0, 8)])));
+    calls.extend(with(list(&[(0, 3, 5 * MIB, 0, 5 * MIB)])));
+    calls
+}
+
+fn list_of_000() -> Vec<Call> {
+    let rows = [
+        (10 * MIB, 10, 30 * MIB, 0, 30 * MIB),
+        (20 * MIB, 11, 16 * MIB, 0, 16 * MIB),
+        (16 * MIB, 12, 10 * MIB, 0, 10 * MIB),
+    ];
+    let mut calls = with(list(&rows));
+    for (start, count) in [(15_728_640, 2_097_152), (10 * MIB, 8 * MIB)] {
+        calls.push(Call::ReadPlan {
+            list: list(&rows),
+            chunk_len: CHUNK,
+            block_size: BLOCK,
+            start,
+            count,
+            out: Room::Right,
+        });
+    }
+    calls
+}
+
+/// A slice under zeros at every second byte: as many runs as the slice has bytes.
+fn tidied_to_the_limit() -> Vec<Call> {
+    let comb = |bytes: u64| {
+        let zeros = (0..bytes / 2).map(|i| (2 * i + 1, 0, 0, 0, 1));
+        list(&[(0, 7, bytes, 0, bytes)].into_iter().chain(zeros).collect::<Vec<_>>())
+    };
+    [1_023, 1_024, 1_025, 2_047].into_iter().flat_map(|bytes| with(comb(bytes))).collect()
+}
+
+fn names() -> Vec<Call> {
+    let mut calls = Vec::new();
+    for name in [
+        "chunks/1/1234/1234567_2_100",
+        "chunks/0/0/3_0_4194304",
+        "chunks/0/0/3_1_1048576",
+        "chunks/0/0/1_0_16",
+        "jfstest/chunks/0/0/1_0_4194304",
+        "jfstest/chunks/0/0/1_1_4194304",
+        "jfstest/chunks/0/0/1_2_2097152",
+        "jfstest/chunks/0/0/10_7_2097152",
+        "foo-dev/chunks/0/0/3_1_1048576",
+    ] {
+        calls.push(Call::ReadObjectName { name: name.into() });
+        calls.push(Call::ReadFullName { name: name.into() });
+    }
+    for (id, block, length) in [(1_234_567, 2, 100), (3, 0, 4_194_304), (3, 1, 1_048_576)] {
+        let (volume, out) = (b"jfstest".to_vec(), Room::Right);
+        calls.push(Call::WriteObjectName { id, block, length, out });
+        calls.push(Call::WriteFullName { volume, id, block, length, out });
+    }
+    calls
+}
+
+fn keys() -> Vec<Call> {
+    let mut calls = Vec::new();
+    for key in ["c100_0", "c100_1", "c100_2", "c100_0,5", "c0100_0"] {
+        calls.push(Call::ReadRedisKey { key: key.into() });
+    }
+    for key in [&b"A\x02\0\0\0\0\0\0\0C\0\0\0\0"[..], b"A\x04\0\0\0\0\0\0\0C\0\0\0\x02"] {
+        calls.push(Call::ReadTkvKey { key: key.to_vec() });
+    }
+    for (inode, index) in [(100, 0), (100, 2), (4, 2)] {
+        calls.push(Call::WriteRedisKey { inode, index, out: Room::Right });
+        calls.push(Call::WriteTkvKey { inode, index, out: Room::Right });
+    }
+    calls
+}

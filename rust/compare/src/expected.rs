@@ -1,0 +1,46 @@
+//! Answers of the second program as the C interface gives them, each with its refusal's
+//! number in front, 0 for none.
+
+use ezumokarin::sys::{ezk_answer, ezk_chunk_key, ezk_compacted, ezk_object};
+use second::{Answer, ChunkKey, Compacted, ObjectName, Refusal};
+
+pub fn answered(answer: Answer) -> (u64, ezk_answer) {
+    match answer {
+        Ok(count) => (0, ezk_answer { count: count as u64, ..Default::default() }),
+        Err(Refusal { number, place }) => {
+            (number, ezk_answer { refusal: number, place, ..Default::default() })
+        }
+    }
+}
+
+pub fn compacted(answer: Result<Compacted, Refusal>) -> (u64, ezk_compacted) {
+    match answer {
+        Ok(Compacted { plan, list }) => {
+            (0, ezk_compacted { plan: plan as u64, list: list as u64, ..Default::default() })
+        }
+        Err(Refusal { number, place }) => {
+            (number, ezk_compacted { refusal: number, place, ..Default::default() })
+        }
+    }
+}
+
+pub fn object(answer: Result<ObjectName, Refusal>, volume: &[u8]) -> (u64, ezk_object) {
+    match answer {
+        Ok(ObjectName { id, block, length }) => {
+            let volume = volume.len() as u64;
+            (0, ezk_object { id, block, length, volume, ..Default::default() })
+        }
+        Err(Refusal { number, place }) => {
+            (number, ezk_object { refusal: number, place, ..Default::default() })
+        }
+    }
+}
+
+pub fn chunk_key(answer: Result<ChunkKey, Refusal>) -> (u64, ezk_chunk_key) {
+    match answer {
+        Ok(ChunkKey { inode, index }) => (0, ezk_chunk_key { inode, index, ..Default::default() }),
+        Err(Refusal { number, place }) => {
+            (number, ezk_chunk_key { refusal: number, place, ..Default::default() })
+        }
+    }
+}

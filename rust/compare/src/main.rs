@@ -1,0 +1,51 @@
+//! `compare [calls] [seed]`: every call of the archive against the second program.
+//!
+//! Prints what was compared and how many differences were found; the exit status is 1 if
+//! there was one. The same seed makes the same calls.
+
+mod call;
+mod cases;
+mod combinations;
+mod expected;
+mod lent;
+mod lists;
+mod mutate;
+mod null;
+mod numbers;
+mod random;
+mod run;
+mod tally;
+mod texts;
+
+use std::process::exit;
+
+use tally::Tally;
+
+const CALLS: u64 = 100_000;
+const SEED: u64 = 20_250_101;
+
+fn main() {
+    let mut arguments = std::env::args().skip(1);
+    let calls = number(arguments.next(), CALLS);
+    let seed = number(arguments.next(), SEED);
+    println!("seed {seed}");
+    let mut tally = Tally::default();
+    for call in cases::all() {
+        tally.compare("papers and limits", &call);
+    }
+    combinations::run(&mut tally);
+    null::run(&mut tally);
+    random::run(&mut tally, seed, calls);
+    print!("{tally}");
+    exit(if tally.differences() == 0 { 0 } else { 1 });
+}
+
+fn number(argument: Option<String>, otherwise: u64) -> u64 {
+    let Some(text) = argument else {
+        return otherwise;
+    };
+    text.parse().unwrap_or_else(|_| {
+        eprintln!("usage: compare [calls] [seed]");
+        exit(2)
+    })
+}

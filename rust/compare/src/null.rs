@@ -1,0 +1,59 @@
+//! Null pointers with length 0, which C callers may pass. Only here are pointers passed
+//! that no slice has.
+
+use std::fmt::Debug;
+use std::ptr::{null, null_mut};
+
+use ezumokarin::sys::*;
+
+use crate::expected::{answered, chunk_key, compacted, object};
+use crate::tally::Tally;
+
+const BLOCK: u64 = 65_536;
+
+/// Safe because a call touches no byte of an input or buffer of length 0.
+pub fn run(tally: &mut Tally) {
+    let (nil, out) = (null(), null_mut());
+    unsafe {
+        let got = ezk_check(nil, 0);
+        same(tally, "check", got, answered(second::check(&[])));
+        for chunk_len in [0, 5] {
+            let got = ezk_view(nil, 0, chunk_len, out, 0);
+            same(tally, "view", got, answered(second::view(&[], chunk_len, &mut [])));
+            let got = ezk_read_plan(nil, 0, chunk_len, BLOCK, 0, 9, out, 0);
+            let want = second::read_plan(&[], chunk_len, BLOCK, 0, 9, &mut []);
+            same(tally, "read_plan", got, answered(want));
+        }
+        same(tally, "tidy", ezk_tidy(nil, 0, out, 0), answered(second::tidy(&[], &mut [])));
+        let got = ezk_compact(nil, 0, BLOCK, 0, 1, out, 0, out, 0);
+        let want = second::compact(&[], BLOCK, 0, 1, &mut [], &mut []);
+        same(tally, "compact", got, compacted(want));
+        let got = ezk_write_object_name(1, 0, 1, out, 0);
+        let want = second::write_object_name(1, 0, 1, &mut []);
+        same(tally, "write_object_name", got, answered(want));
+        let got = ezk_write_full_name(nil, 0, 1, 0, 1, out, 0);
+        let want = second::write_full_name(&[], 1, 0, 1, &mut []);
+        same(tally, "write_full_name", got, answered(want));
+        let want = second::write_redis_key(1, 1, &mut []);
+        same(tally, "write_redis_key", ezk_write_redis_key(1, 1, out, 0), answered(want));
+        let want = second::write_tkv_key(1, 1, &mut []);
+        same(tally, "write_tkv_key", ezk_write_tkv_key(1, 1, out, 0), answered(want));
+        let want = object(second::read_object_name(&[]), b"");
+        same(tally, "read_object_name", ezk_read_object_name(nil, 0), want);
+        let want = object(second::read_full_name(&[]), b"");
+        same(tally, "read_full_name", ezk_read_full_name(nil, 0), want);
+        let want = chunk_key(second::read_redis_key(&[]));
+        same(tally, "read_redis_key", ezk_read_redis_key(nil, 0), want);
+        let want = chunk_key(second::read_tkv_key(&[]));
+        same(tally, "read_tkv_key", ezk_read_tkv_key(nil, 0), want);
+    }
+}
+
+fn same<T: Debug + PartialEq>(tally: &mut Tally, call: &'static str, got: T, want: (u64, T)) {
+    let (refusal, want) = want;
+    tally.count("null pointers", call, refusal);
+    if got != want {
+        let what = format!("archive {got:?}, second program {want:?}");
+        tally.difference(&format!("{call} with null pointers"), &what);
+    }
+}

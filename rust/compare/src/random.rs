@@ -1,0 +1,87 @@
+//! Random calls of every kind.
+
+use crate::call::{Call, Room};
+use crate::tally::Tally;
+use crate::{lists, mutate, numbers, texts};
+use rng::Rng;
+
+/// Compares random calls until `calls` calls have been compared in all.
+pub fn run(tally: &mut Tally, seed: u64, calls: u64) {
+    let mut rng = Rng::new(seed);
+    while tally.compared() < calls {
+        let call = any_call(&mut rng);
+        tally.compare("random", &call);
+    }
+}
+
+fn any_call(rng: &mut Rng) -> Call {
+    if rng.below(3) < 2 {
+        with_list(rng)
+    } else {
+        with_text(rng)
+    }
+}
+
+fn with_list(rng: &mut Rng) -> Call {
+    let mut list = lists::sound(rng);
+    mutate::list(rng, &mut list);
+    let out = room(rng);
+    match rng.below(9) {
+        0 => Call::Check { list },
+        1 | 2 => Call::View { chunk_len: numbers::chunk_len(rng), list, out },
+        3 | 4 => Call::Tidy { list, out },
+        5 | 6 => Call::ReadPlan {
+            chunk_len: numbers::chunk_len(rng),
+            block_size: numbers::block_size(rng),
+            start: numbers::position(rng, &list),
+            count: numbers::count(rng, &list),
+            list,
+            out,
+        },
+        _ => Call::Compact {
+            block_size: numbers::block_size(rng),
+            k: numbers::first_records(rng, &list),
+            new_id: numbers::new_id(rng, &list),
+            list,
+            plan: out,
+            new_list: room(rng),
+        },
+    }
+}
+
+fn with_text(rng: &mut Rng) -> Call {
+    let (id, block) = (numbers::id(rng), numbers::block(rng));
+    let (length, index) = (numbers::block_length(rng), numbers::index(rng));
+    let out = room(rng);
+    match rng.below(8) {
+        0 => Call::WriteObjectName { id, block, length, out },
+        1 => Call::WriteFullName { volume: texts::volume(rng), id, block, length, out },
+        2 => Call::WriteRedisKey { inode: id, index, out },
+        3 => Call::WriteTkvKey { inode: id, index, out },
+        4 => Call::ReadObjectName { name: text(rng, texts::object_name) },
+        5 => Call::ReadFullName { name: text(rng, texts::full_name) },
+        6 => Call::ReadRedisKey { key: text(rng, texts::redis_key) },
+        _ => Call::ReadTkvKey { key: text(rng, texts::tkv_key) },
+    }
+}
+
+/// A text of that kind, and now and then one of another.
+fn text(rng: &mut Rng, kind: fn(&mut Rng) -> Vec<u8>) -> Vec<u8> {
+    if rng.once_in(20) {
+        let other = rng.below(4) as usize;
+        return [texts::object_name, texts::full_name, texts::redis_key, texts::tkv_key][other](
+            rng,
+        );
+    }
+    kind(rng)
+}
+
+fn room(rng: &mut Rng) -> Room {
+    match rng.below(10) {
+        0 => Room::OneShort,
+        1 => Room::Empty,
+        2 => Room::Bytes(rng.below(300) as usize),
+        3..=5 => Room::Longer(1 + rng.below(60) as usize),
+        _ => Room::Right,
+    }
+}

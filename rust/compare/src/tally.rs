@@ -1,0 +1,74 @@
+//! Counts of what was compared, per call and per refusal, and the differences.
+
+use std::collections::BTreeMap;
+use std::fmt;
+
+use crate::call::Call;
+use crate::run;
+
+/// Refusals 1 to 13, and 0 for an answer.
+const REFUSALS: usize = 14;
+/// Differences that are printed in full; the rest are only counted.
+const SHOWN: u64 = 10;
+
+#[derive(Default)]
+pub struct Tally {
+    calls: BTreeMap<&'static str, [u64; REFUSALS]>,
+    origins: BTreeMap<&'static str, u64>,
+    compared: u64,
+    differences: u64,
+}
+
+impl Tally {
+    /// Makes the call both ways; returns the refusal that the second program gives.
+    pub fn compare(&mut self, origin: &'static str, call: &Call) -> u64 {
+        let seen = run::run(call, self.compared as usize);
+        self.count(origin, call.name(), seen.refusal);
+        if !seen.faults.is_empty() {
+            self.difference(&format!("{call:x?}"), &seen.faults.join("\n  "));
+        }
+        seen.refusal
+    }
+
+    pub fn count(&mut self, origin: &'static str, call: &'static str, refusal: u64) {
+        self.compared += 1;
+        *self.origins.entry(origin).or_default() += 1;
+        self.calls.entry(call).or_default()[refusal as usize] += 1;
+    }
+
+    pub fn difference(&mut self, call: &str, what: &str) {
+        self.differences += 1;
+        if self.differences <= SHOWN {
+            println!("DIFFERENCE in {call}\n  {what}");
+        }
+    }
+
+    pub fn compared(&self) -> u64 {
+        self.compared
+    }
+
+    pub fn differences(&self) -> u64 {
+        self.differences
+    }
+}
+
+impl fmt::Display for Tally {
+    fn fmt(&self, f: &mut fmt::Formatter<'_>) -> fmt::Result {
+        write!(f, "{:18}{:>10}", "call", "answered")?;
+        for number in 1..REFUSALS {
+            write!(f, "{number:>9}")?;
+        }
+        writeln!(f)?;
+        for (name, counts) in &self.calls {
+            write!(f, "{name:18}{:>10}", counts[0])?;
+            for count in &counts[1..] {
+                write!(f, "{count:>9}")?;
+            }
+            writeln!(f)?;
+        }
+        for (origin, count) in &self.origins {
+            writeln!(f, "{count} calls from: {origin}")?;
+        }
+        writeln!(f, "{} calls compared, {} differences", self.compared, self.differences)
+    }
+}

@@ -1,0 +1,145 @@
+//! The thirteen refusals.
+
+use std::error::Error;
+use std::fmt;
+
+/// Why a call gave no answer. Where several fit, the library gives the first in this order:
+/// 7, 8, 1, 2, the first bad record and in it 3, 4, 5, 6; then 10, 9, 13, 11, 12.
+///
+/// `place` is the place of the record in its list, counted from 0.
+///
+/// ```
+/// let refusal = ezumokarin::check(&[0; 25]).unwrap_err();
+/// assert_eq!(refusal.number(), 1);
+/// assert_eq!(refusal.to_string(), "list length is no multiple of 24");
+/// ```
+#[derive(Clone, Copy, Debug, PartialEq, Eq, Hash)]
+pub enum Refusal {
+    /// 1: list length is no multiple of 24
+    ListLength,
+    /// 2: more than 1,024 records
+    ListRecords,
+    /// 3: pos + len above 64 MiB
+    RecordEnd {
+        /// The record.
+        place: u64,
+    },
+    /// 4: size above 64 MiB
+    SliceSize {
+        /// The record.
+        place: u64,
+    },
+    /// 5: id 0 with size or off other than 0
+    ZeroRecord {
+        /// The record.
+        place: u64,
+    },
+    /// 6: id not 0 and off + len above size
+    SliceEnd {
+        /// The record.
+        place: u64,
+    },
+    /// 7: chunk length above 64 MiB
+    ChunkLength,
+    /// 8: block size not allowed
+    BlockSize,
+    /// 9: new id is 0 or stands in any record of the list, empty ones included
+    NewId,
+    /// 10: k above the number of records
+    FirstRecords,
+    /// 11: tidied list above 1,024 records
+    TidiedRecords,
+    /// 12: an output buffer shorter than its answer (either of the two, in compaction)
+    Buffer,
+    /// 13: a name or key not of the form, or numbers to be written that the form doesn't allow
+    Form,
+}
+
+impl Refusal {
+    /// The number that the library gives this refusal, 1 to 13.
+    pub fn number(&self) -> u64 {
+        match self {
+            Refusal::ListLength => 1,
+            Refusal::ListRecords => 2,
+            Refusal::RecordEnd { .. } => 3,
+            Refusal::SliceSize { .. } => 4,
+            Refusal::ZeroRecord { .. } => 5,
+            Refusal::SliceEnd { .. } => 6,
+            Refusal::ChunkLength => 7,
+            Refusal::BlockSize => 8,
+            Refusal::NewId => 9,
+            Refusal::FirstRecords => 10,
+            Refusal::TidiedRecords => 11,
+            Refusal::Buffer => 12,
+            Refusal::Form => 13,
+        }
+    }
+
+    /// The place of the refused record; only refusals 3 to 6 have one.
+    pub fn place(&self) -> Option<u64> {
+        match *self {
+            Refusal::RecordEnd { place }
+            | Refusal::SliceSize { place }
+            | Refusal::ZeroRecord { place }
+            | Refusal::SliceEnd { place } => Some(place),
+            _ => None,
+        }
+    }
+
+    fn sentence(&self) -> &'static str {
+        match self {
+            Refusal::ListLength => "list length is no multiple of 24",
+            Refusal::ListRecords => "more than 1,024 records",
+            Refusal::RecordEnd { .. } => "pos + len above 64 MiB",
+            Refusal::SliceSize { .. } => "size above 64 MiB",
+            Refusal::ZeroRecord { .. } => "id 0 with size or off other than 0",
+            Refusal::SliceEnd { .. } => "id not 0 and off + len above size",
+            Refusal::ChunkLength => "chunk length above 64 MiB",
+            Refusal::BlockSize => "block size not allowed",
+            Refusal::NewId => {
+                "new id is 0 or stands in any record of the list, empty ones included"
+            }
+            Refusal::FirstRecords => "k above the number of records",
+            Refusal::TidiedRecords => "tidied list above 1,024 records",
+            Refusal::Buffer => {
+                "an output buffer shorter than its answer (either of the two, in compaction)"
+            }
+            Refusal::Form => {
+                "a name or key not of the form, or numbers to be written that the form doesn't allow"
+            }
+        }
+    }
+}
+
+/// `Ok` for number 0, else the refusal of that number.
+pub(crate) fn passed(number: u64, place: u64) -> Result<(), Refusal> {
+    Err(match number {
+        0 => return Ok(()),
+        1 => Refusal::ListLength,
+        2 => Refusal::ListRecords,
+        3 => Refusal::RecordEnd { place },
+        4 => Refusal::SliceSize { place },
+        5 => Refusal::ZeroRecord { place },
+        6 => Refusal::SliceEnd { place },
+        7 => Refusal::ChunkLength,
+        8 => Refusal::BlockSize,
+        9 => Refusal::NewId,
+        10 => Refusal::FirstRecords,
+        11 => Refusal::TidiedRecords,
+        12 => Refusal::Buffer,
+        13 => Refusal::Form,
+        // Only a library that doesn't belong to this crate can say more.
+        _ => panic!("the library refused with number {number}, unknown to this crate"),
+    })
+}
+
+impl fmt::Display for Refusal {
+    fn fmt(&self, f: &mut fmt::Formatter<'_>) -> fmt::Result {
+        match self.place() {
+            Some(place) => write!(f, "record {place}: {}", self.sentence()),
+            None => f.write_str(self.sentence()),
+        }
+    }
+}
+
+impl Error for Refusal {}

@@ -1,0 +1,210 @@
+//! The C interface as `include/ezumokarin.h` gives it, and one call for each function
+//! that takes slices. All `unsafe` of this crate stands here: a slice is a pointer and a
+//! length that are good for the whole call, and the library keeps neither.
+#![allow(non_camel_case_types)]
+
+/// What most calls return; `refusal` is 0 on success, fields without meaning are 0.
+#[repr(C)]
+#[derive(Clone, Copy, Debug, Default, PartialEq, Eq)]
+pub struct ezk_answer {
+    /// 0, or the number of the refusal.
+    pub refusal: u64,
+    /// The place of the refused record, for refusals 3 to 6.
+    pub place: u64,
+    /// Bytes written, or records found.
+    pub count: u64,
+}
+
+/// What compaction returns.
+#[repr(C)]
+#[derive(Clone, Copy, Debug, Default, PartialEq, Eq)]
+pub struct ezk_compacted {
+    /// 0, or the number of the refusal.
+    pub refusal: u64,
+    /// The place of the refused record, for refusals 3 to 6.
+    pub place: u64,
+    /// Bytes of the plan.
+    pub plan: u64,
+    /// Bytes of the new list.
+    pub list: u64,
+}
+
+/// What the readers of names return.
+#[repr(C)]
+#[derive(Clone, Copy, Debug, Default, PartialEq, Eq)]
+pub struct ezk_object {
+    /// 0 or 13.
+    pub refusal: u64,
+    /// Always 0.
+    pub place: u64,
+    /// The slice.
+    pub id: u64,
+    /// The number of the block in its slice.
+    pub block: u64,
+    /// The block length.
+    pub length: u64,
+    /// Length of the volume name at the front of the text; 0 in a short name.
+    pub volume: u64,
+}
+
+/// What the readers of keys return.
+#[repr(C)]
+#[derive(Clone, Copy, Debug, Default, PartialEq, Eq)]
+pub struct ezk_chunk_key {
+    /// 0 or 13.
+    pub refusal: u64,
+    /// Always 0.
+    pub place: u64,
+    /// The inode of the file.
+    pub inode: u64,
+    /// The index of the chunk in its file.
+    pub index: u64,
+}
+
+#[allow(missing_docs)] // each function is described in include/ezumokarin.h
+extern "C" {
+    pub fn ezk_check(list: *const u8, list_len: usize) -> ezk_answer;
+    pub fn ezk_view(
+        list: *const u8,
+        list_len: usize,
+        chunk_len: u64,
+        out: *mut u8,
+        out_len: usize,
+    ) -> ezk_answer;
+    pub fn ezk_tidy(list: *const u8, list_len: usize, out: *mut u8, out_len: usize) -> ezk_answer;
+    pub fn ezk_read_plan(
+        list: *const u8,
+        list_len: usize,
+        chunk_len: u64,
+        block_size: u64,
+        start: u64,
+        count: u64,
+        out: *mut u8,
+        out_len: usize,
+    ) -> ezk_answer;
+    pub fn ezk_compact(
+        list: *const u8,
+        list_len: usize,
+        block_size: u64,
+        k: u64,
+        new_id: u64,
+        plan: *mut u8,
+        plan_len: usize,
+        new_list: *mut u8,
+        new_list_len: usize,
+    ) -> ezk_compacted;
+    pub fn ezk_write_object_name(
+        id: u64,
+        block: u64,
+        length: u64,
+        out: *mut u8,
+        out_len: usize,
+    ) -> ezk_answer;
+    pub fn ezk_write_full_name(
+        volume: *const u8,
+        volume_len: usize,
+        id: u64,
+        block: u64,
+        length: u64,
+        out: *mut u8,
+        out_len: usize,
+    ) -> ezk_answer;
+    pub fn ezk_read_object_name(name: *const u8, name_len: usize) -> ezk_object;
+    pub fn ezk_read_full_name(name: *const u8, name_len: usize) -> ezk_object;
+    pub fn ezk_write_redis_key(inode: u64, index: u64, out: *mut u8, out_len: usize) -> ezk_answer;
+    pub fn ezk_write_tkv_key(inode: u64, index: u64, out: *mut u8, out_len: usize) -> ezk_answer;
+    pub fn ezk_read_redis_key(key: *const u8, key_len: usize) -> ezk_chunk_key;
+    pub fn ezk_read_tkv_key(key: *const u8, key_len: usize) -> ezk_chunk_key;
+}
+
+/// `ezk_check`
+pub fn check(list: &[u8]) -> ezk_answer {
+    unsafe { ezk_check(list.as_ptr(), list.len()) }
+}
+
+/// `ezk_view`
+pub fn view(list: &[u8], chunk_len: u64, out: &mut [u8]) -> ezk_answer {
+    unsafe { ezk_view(list.as_ptr(), list.len(), chunk_len, out.as_mut_ptr(), out.len()) }
+}
+
+/// `ezk_tidy`
+pub fn tidy(list: &[u8], out: &mut [u8]) -> ezk_answer {
+    unsafe { ezk_tidy(list.as_ptr(), list.len(), out.as_mut_ptr(), out.len()) }
+}
+
+/// `ezk_read_plan`
+pub fn read_plan(
+    list: &[u8],
+    chunk_len: u64,
+    block_size: u64,
+    start: u64,
+    count: u64,
+    out: &mut [u8],
+) -> ezk_answer {
+    let (list, list_len) = (list.as_ptr(), list.len());
+    let (out, out_len) = (out.as_mut_ptr(), out.len());
+    unsafe { ezk_read_plan(list, list_len, chunk_len, block_size, start, count, out, out_len) }
+}
+
+/// `ezk_compact`
+pub fn compact(
+    list: &[u8],
+    block_size: u64,
+    k: u64,
+    new_id: u64,
+    plan: &mut [u8],
+    new_list: &mut [u8],
+) -> ezk_compacted {
+    let (list, list_len) = (list.as_ptr(), list.len());
+    let (plan, plan_len) = (plan.as_mut_ptr(), plan.len());
+    let (new, new_len) = (new_list.as_mut_ptr(), new_list.len());
+    unsafe { ezk_compact(list, list_len, block_size, k, new_id, plan, plan_len, new, new_len) }
+}
+
+/// `ezk_write_object_name`
+pub fn write_object_name(id: u64, block: u64, length: u64, out: &mut [u8]) -> ezk_answer {
+    unsafe { ezk_write_object_name(id, block, length, out.as_mut_ptr(), out.len()) }
+}
+
+/// `ezk_write_full_name`
+pub fn write_full_name(
+    volume: &[u8],
+    id: u64,
+    block: u64,
+    length: u64,
+    out: &mut [u8],
+) -> ezk_answer {
+    let (volume, volume_len) = (volume.as_ptr(), volume.len());
+    let (out, out_len) = (out.as_mut_ptr(), out.len());
+    unsafe { ezk_write_full_name(volume, volume_len, id, block, length, out, out_len) }
+}
+
+/// `ezk_read_object_name`
+pub fn read_object_name(name: &[u8]) -> ezk_object {
+    unsafe { ezk_read_object_name(name.as_ptr(), name.len()) }
+}
+
+/// `ezk_read_full_name`
+pub fn read_full_name(name: &[u8]) -> ezk_object {
+    unsafe { ezk_read_full_name(name.as_ptr(), name.len()) }
+}
+
+/// `ezk_write_redis_key`
+pub fn write_redis_key(inode: u64, index: u64, out: &mut [u8]) -> ezk_answer {
+    unsafe { ezk_write_redis_key(inode, index, out.as_mut_ptr(), out.len()) }
+}
+
+/// `ezk_write_tkv_key`
+pub fn write_tkv_key(inode: u64, index: u64, out: &mut [u8]) -> ezk_answer {
+    unsafe { ezk_write_tkv_key(inode, index, out.as_mut_ptr(), out.len()) }
+}
+
+/// `ezk_read_redis_key`
+pub fn read_redis_key(key: &[u8]) -> ezk_chunk_key {
+    unsafe { ezk_read_redis_key(key.as_ptr(), key.len()) }
+}
+
+/// `ezk_read_tkv_key`
+pub fn read_tkv_key(key: &[u8]) -> ezk_chunk_key {
+    unsafe { ezk_read_tkv_key(key.as_ptr(), key.len()) }
+}

@@ -1,0 +1,85 @@
+//! Cases of the papers through the safe calls, with the papers' values.
+
+use ezumokarin::*;
+
+const MIB: u32 = 1_048_576;
+
+fn list_of_000() -> Vec<u8> {
+    let rows = [(10, 10, 30, 30), (20, 11, 16, 16), (16, 12, 10, 10)];
+    let record = |(pos, id, size, len): (u32, u64, u32, u32)| {
+        Record { pos: pos * MIB, id, size: size * MIB, off: 0, len: len * MIB }.to_bytes()
+    };
+    rows.into_iter().flat_map(record).collect()
+}
+
+#[test]
+fn view_of_000() {
+    let table = "0 0 10485760 0 10485760
+10485760 10 31457280 0 6291456
+16777216 12 10485760 0 10485760
+27262976 11 16777216 6291456 10485760
+37748736 10 31457280 27262976 4194304
+41943040 0 25165824 0 25165824
+";
+    let mut out = [0; 7 * Record::LEN];
+    let count = view(&list_of_000(), CHUNK, &mut out).expect("a view");
+    let line = |r: Record| format!("{} {} {} {} {}\n", r.pos, r.id, r.size, r.off, r.len);
+    assert_eq!(records(&out[..count]).map(line).collect::<String>(), table);
+}
+
+#[test]
+fn read_of_two_pieces() {
+    let mut out = [0; 60];
+    let count = read_plan(&list_of_000(), CHUNK, 4_194_304, 15_728_640, 2_097_152, &mut out);
+    assert_eq!(count, Ok(60));
+    let first = Place::Object { id: 10, block: 1, length: 4_194_304, at: 1_048_576 };
+    let second = Place::Object { id: 12, block: 0, length: 4_194_304, at: 0 };
+    let plan = [
+        Piece { place: 0, from: first, len: 1_048_576 },
+        Piece { place: 1_048_576, from: second, len: 1_048_576 },
+    ];
+    assert_eq!(pieces(&out).collect::<Vec<_>>(), plan);
+}
+
+#[test]
+fn lengths_of_lists() {
+    assert_eq!(check(&[]), Ok(0));
+    assert_eq!(check(&[0; 24_576]), Ok(1_024));
+    assert_eq!(check(&[0; 24_600]), Err(Refusal::ListRecords));
+    assert_eq!(check(&[0; 24_601]), Err(Refusal::ListLength));
+}
+
+#[test]
+fn bad_record_has_its_place() {
+    let good = Record { pos: 0, id: 7, size: 10, off: 4, len: 6 };
+    let bad = Record { len: 7, ..good };
+    let refused = check(&[good.to_bytes(), bad.to_bytes()].concat()).expect_err("a refusal");
+    assert_eq!(refused, Refusal::SliceEnd { place: 1 });
+    assert_eq!((refused.number(), refused.place()), (6, Some(1)));
+    assert_eq!(refused.to_string(), "record 1: id not 0 and off + len above size");
+}
+
+#[test]
+fn refused_name_has_no_volume() {
+    assert_eq!(read_full_name(b"jfstest/chunks/0/0/1_0_0"), Err(Refusal::Form));
+    assert_eq!(read_full_name(b"chunks/0/0/1_0_1"), Err(Refusal::Form));
+    assert_eq!(read_object_name(b"jfstest/chunks/0/0/1_0_1"), Err(Refusal::Form));
+}
+
+#[test]
+fn refused_call_changes_no_byte() {
+    let mut out = [0xee; 23];
+    assert_eq!(view(&[], 5, &mut out), Err(Refusal::Buffer));
+    assert_eq!(out, [0xee; 23]);
+}
+
+/// A refusal goes up through `?` as an error.
+#[test]
+fn refusal_is_an_error() {
+    fn read() -> Result<u64, Box<dyn std::error::Error>> {
+        Ok(read_redis_key(b"c0100_0")?.inode)
+    }
+    let sentence =
+        "a name or key not of the form, or numbers to be written that the form doesn't allow";
+    assert_eq!(read().expect_err("a refusal").to_string(), sentence);
+}

@@ -1,0 +1,79 @@
+//! The answers of `second` as the structs of the C interface.
+#![allow(non_camel_case_types)]
+
+use second::{Answer, ChunkKey, Compacted, ObjectName, Refusal};
+
+#[repr(C)]
+#[derive(Default)]
+pub struct ezk_answer {
+    refusal: u64,
+    place: u64,
+    count: u64,
+}
+
+#[repr(C)]
+#[derive(Default)]
+pub struct ezk_compacted {
+    refusal: u64,
+    place: u64,
+    plan: u64,
+    list: u64,
+}
+
+#[repr(C)]
+#[derive(Default)]
+pub struct ezk_object {
+    refusal: u64,
+    place: u64,
+    id: u64,
+    block: u64,
+    length: u64,
+    volume: u64,
+}
+
+#[repr(C)]
+#[derive(Default)]
+pub struct ezk_chunk_key {
+    refusal: u64,
+    place: u64,
+    inode: u64,
+    index: u64,
+}
+
+pub fn answered(answer: Answer) -> ezk_answer {
+    match answer {
+        Ok(count) => ezk_answer { count: count as u64, ..ezk_answer::default() },
+        Err(Refusal { number, place }) => ezk_answer { refusal: number, place, count: 0 },
+    }
+}
+
+pub fn compacted(answer: Result<Compacted, Refusal>) -> ezk_compacted {
+    match answer {
+        Ok(Compacted { plan, list }) => {
+            ezk_compacted { plan: plan as u64, list: list as u64, ..ezk_compacted::default() }
+        }
+        Err(Refusal { number, place }) => {
+            ezk_compacted { refusal: number, place, ..ezk_compacted::default() }
+        }
+    }
+}
+
+pub fn object(answer: Result<ObjectName, Refusal>, volume: &[u8]) -> ezk_object {
+    match answer {
+        Ok(ObjectName { id, block, length }) => {
+            ezk_object { id, block, length, volume: volume.len() as u64, ..ezk_object::default() }
+        }
+        Err(Refusal { number, place }) => {
+            ezk_object { refusal: number, place, ..ezk_object::default() }
+        }
+    }
+}
+
+pub fn key(answer: Result<ChunkKey, Refusal>) -> ezk_chunk_key {
+    match answer {
+        Ok(ChunkKey { inode, index }) => ezk_chunk_key { inode, index, ..ezk_chunk_key::default() },
+        Err(Refusal { number, place }) => {
+            ezk_chunk_key { refusal: number, place, ..ezk_chunk_key::default() }
+        }
+    }
+}

@@ -1,0 +1,59 @@
+//! Refusals 7, 8 and 1 to 6: what is wrong with the inputs of a call.
+
+use crate::limits::{BLOCK_SIZE_MAX, BLOCK_SIZE_MIN, CHUNK, LIST_RECORDS, RECORD};
+use crate::{Answer, Record, Refusal};
+
+/// How many records an acceptable list has.
+pub fn check(list: &[u8]) -> Answer {
+    Ok(records(list)?.len())
+}
+
+/// Refusal 7.
+pub fn chunk_length(length: u64) -> Result<(), Refusal> {
+    if length > CHUNK {
+        return Err(Refusal::of(7));
+    }
+    Ok(())
+}
+
+/// Refusal 8.
+pub fn block_size(size: u64) -> Result<(), Refusal> {
+    if !size.is_power_of_two() || !(BLOCK_SIZE_MIN..=BLOCK_SIZE_MAX).contains(&size) {
+        return Err(Refusal::of(8));
+    }
+    Ok(())
+}
+
+/// The records of a list, or refusals 1, 2, then 3 to 6 of the first bad record.
+pub fn records(list: &[u8]) -> Result<Vec<Record>, Refusal> {
+    if !list.len().is_multiple_of(RECORD) {
+        return Err(Refusal::of(1));
+    }
+    if list.len() / RECORD > LIST_RECORDS {
+        return Err(Refusal::of(2));
+    }
+    let records: Vec<Record> = list.chunks(RECORD).map(Record::from_bytes).collect();
+    for (place, record) in records.iter().enumerate() {
+        if let Some(number) = fault(record) {
+            return Err(Refusal::at(number, place));
+        }
+    }
+    Ok(records)
+}
+
+/// The first of refusals 3 to 6 that fits a record.
+fn fault(record: &Record) -> Option<u64> {
+    if record.pos + record.len > CHUNK {
+        return Some(3);
+    }
+    if record.size > CHUNK {
+        return Some(4);
+    }
+    if record.id == 0 && (record.size != 0 || record.off != 0) {
+        return Some(5);
+    }
+    if record.id != 0 && record.off + record.len > record.size {
+        return Some(6);
+    }
+    None
+}

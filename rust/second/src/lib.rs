@@ -1,0 +1,33 @@
+//! A second implementation of every public call, written from the requirements alone.
+//!
+//! It is meant to be read and believed, not to be fast: lists are resolved by
+//! cutting the chunk at every record boundary and looking up each part, and
+//! texts are read by writing the numbers found and comparing.
+#![forbid(unsafe_code)]
+
+mod answer;
+mod check;
+mod compaction;
+mod keys;
+pub mod limits;
+mod names;
+mod plan;
+mod record;
+mod refusal;
+mod runs;
+mod source;
+pub mod store;
+mod view;
+
+pub use answer::{put, Answer};
+pub use check::{block_size, check, chunk_length, records};
+pub use compaction::{compact, compact_bytes, put_both, Compacted};
+pub use keys::ChunkKey;
+pub use keys::{read_redis_key, read_tkv_key, redis_key, tkv_key, write_redis_key, write_tkv_key};
+pub use names::{full_name, object_name, read_full_name, read_object_name, volume_of};
+pub use names::{write_full_name, write_object_name, ObjectName};
+pub use plan::{read_plan, read_plan_bytes, Piece, Place};
+pub use record::Record;
+pub use refusal::Refusal;
+pub use source::{source_at, Source};
+pub use view::{tidy, tidy_bytes, view, view_bytes};

@@ -1,0 +1,138 @@
+//! The view and the plan against a walk over every position, on short lists.
+
+mod common;
+use common::*;
+use rng::Rng;
+use second::{read_plan, source_at, view, Piece, Place, Record, Source};
+
+const END: u64 = 60;
+
+/// Records of few ids, sizes and places, so that they meet often.
+fn crowded(random: &mut Rng) -> Vec<u8> {
+    let rows: Vec<Row> = (0..random.below(9)).map(|_| crowded_row(random)).collect();
+    list(&rows)
+}
+
+fn crowded_row(random: &mut Rng) -> Row {
+    let (pos, len) = (random.below(END - 10), random.below(11));
+    match random.below(4) {
+        0 => (pos, 0, 0, 0, len),
+        // One slice lies everywhere at its own position, so that parts rejoin.
+        1 => (pos, 1, 100, pos, len),
+        2 => (pos, 1, 101, pos, len),
+        _ => (pos, 1 + random.below(3), 40, random.below(30), len),
+    }
+}
+
+/// The source of each position, as the records of a view give it.
+fn spread(bytes: &[u8]) -> Vec<Source> {
+    let mut sources = Vec::new();
+    for run in bytes.chunks(24).map(Record::from_bytes) {
+        assert_eq!(run.pos, sources.len() as u64);
+        assert!(run.len > 0);
+        for i in 0..run.len {
+            sources.push(match (run.id, run.size) {
+                (0, 0) => Source::Zero,
+                (0, _) => Source::Nothing,
+                (id, size) => Source::Byte { id, size, off: run.off + i },
+            });
+        }
+    }
+    sources
+}
+
+/// How many runs a row of sources has, told from neighbours alone.
+fn runs_in(sources: &[Source]) -> usize {
+    let goes_on = |pair: &&[Source]| match (pair[0], pair[1]) {
+        (Source::Byte { id, size, off }, next) => next == Source::Byte { id, size, off: off + 1 },
+        (first, next) => first == next,
+    };
+    sources.len() - sources.windows(2).filter(goes_on).count()
+}
+
+#[test]
+fn view_is_the_cover_in_fewest_runs() {
+    let mut random = Rng::new(1);
+    for _ in 0..3_000 {
+        let list = crowded(&mut random);
+        let chunk_len = random.below(END + 1);
+        let records = second::records(&list).expect("an accepted list");
+        let mut out = vec![0; 1_000];
+        let count = view(&list, chunk_len, &mut out).expect("a view");
+        let cover: Vec<Source> = (0..chunk_len).map(|p| source_at(&records, p)).collect();
+        assert_eq!(spread(&out[..count]), cover);
+        assert_eq!(count / 24, runs_in(&cover));
+        assert!(count / 24 <= 2 * records.len() + 1);
+        for run in out[..count].chunks(24).map(Record::from_bytes) {
+            assert!(run.id != 0 || run.off == 0 && (run.size == 0 || run.size == run.len));
+        }
+    }
+}
+
+/// The place of each byte of a read, as the pieces of a plan give it.
+fn places(bytes: &[u8]) -> Vec<Place> {
+    let mut places = Vec::new();
+    for piece in bytes.chunks(30).map(Piece::from_bytes) {
+        assert_eq!(piece.place, places.len() as u64);
+        assert!(piece.len > 0);
+        for i in 0..piece.len {
+            places.push(match piece.from {
+                Place::Zeros => Place::Zeros,
+                Place::Object { id, block, length, at } => {
+                    Place::Object { id, block, length, at: at + i }
+                }
+            });
+        }
+    }
+    places
+}
+
+fn pieces_in(places: &[Place]) -> usize {
+    let goes_on = |pair: &&[Place]| match (pair[0], pair[1]) {
+        (Place::Object { id, block, length, at }, next) => {
+            next == Place::Object { id, block, length, at: at + 1 }
+        }
+        (first, next) => first == next,
+    };
+    places.len() - places.windows(2).filter(goes_on).count()
+}
+
+/// Where a source lies, in the words of the paper.
+fn lies(source: Source, block_size: u64) -> Place {
+    match source {
+        Source::Byte { id, size, off } => Place::Object {
+            id,
+            block: off / block_size,
+            length: std::cmp::min(block_size, size - off / block_size * block_size),
+            at: off % block_size,
+        },
+        _ => Place::Zeros,
+    }
+}
+
+/// As `crowded`, with slice offsets about the edge of a block of 65,536 bytes.
+fn at_an_edge(random: &mut Rng) -> Vec<u8> {
+    let mut moved = rows(&crowded(random));
+    for row in moved.iter_mut().filter(|row| row.1 != 0) {
+        row.2 = 131_072 + random.below(2);
+        row.3 += 65_520;
+    }
+    list(&moved)
+}
+
+#[test]
+fn plan_is_the_cover_in_fewest_pieces() {
+    let mut random = Rng::new(2);
+    for _ in 0..3_000 {
+        let list = at_an_edge(&mut random);
+        let chunk_len = random.below(END + 1);
+        let (start, count) = (random.below(END + 5), random.below(END + 5));
+        let records = second::records(&list).expect("an accepted list");
+        let mut out = vec![0; 2_000];
+        let written = read_plan(&list, chunk_len, 65_536, start, count, &mut out).expect("a plan");
+        let end = chunk_len.min(start + count);
+        let read: Vec<Place> = (start..end).map(|p| lies(source_at(&records, p), 65_536)).collect();
+        assert_eq!(places(&out[..written]), read);
+        assert_eq!(written / 30, pieces_in(&read));
+    }
+}

@@ -1,0 +1,109 @@
+//! Each refusal at its edge, the order of several, and buffers that stay.
+
+mod common;
+use common::*;
+use second::*;
+
+#[test]
+fn sums_are_those_of_mathematics() {
+    let most = 4_294_967_295;
+    assert_eq!(check(&list(&[(most, 1, 9, 0, 2)])), Err(no_at(3, 0)));
+    assert_eq!(check(&list(&[(0, 1, 9, most, 2)])), Err(no_at(6, 0)));
+}
+
+#[test]
+fn empty_records_are_checked_too() {
+    assert_eq!(check(&list(&[(CHUNK, 1, 4, 4, 0)])), Ok(1));
+    assert_eq!(check(&list(&[(CHUNK + 1, 1, 4, 4, 0)])), Err(no_at(3, 0)));
+    assert_eq!(check(&list(&[(0, 1, 4, 5, 0)])), Err(no_at(6, 0)));
+    assert_eq!(check(&list(&[(0, 0, 1, 0, 0)])), Err(no_at(5, 0)));
+    assert_eq!(check(&list(&[(0, 0, 0, 1, 0)])), Err(no_at(5, 0)));
+}
+
+#[test]
+fn first_bad_record_and_in_it_the_first_refusal() {
+    let good = (0, 1, 9, 0, 9);
+    assert_eq!(
+        check(&list(&[good, (0, 1, CHUNK + 1, 0, 1), (CHUNK, 1, 9, 0, 1)])),
+        Err(no_at(4, 1))
+    );
+    assert_eq!(check(&list(&[good, good, (CHUNK, 0, CHUNK + 1, 1, 1)])), Err(no_at(3, 2)));
+    assert_eq!(check(&list(&[(0, 0, CHUNK + 1, 1, 1)])), Err(no_at(4, 0)));
+    assert_eq!(check(&list(&[(0, 1, CHUNK + 1, CHUNK + 1, 1)])), Err(no_at(4, 0)));
+}
+
+#[test]
+fn order_of_the_inputs() {
+    let plan = |list: &[u8], l, b| read_plan(list, l, b, 0, 1, &mut []);
+    assert_eq!(plan(&[0; 24_601], CHUNK + 1, 0), Err(no(7)));
+    assert_eq!(plan(&[0; 24_601], CHUNK, 0), Err(no(8)));
+    assert_eq!(plan(&[0; 24_601], CHUNK, BLOCK), Err(no(1)));
+    assert_eq!(plan(&[0xff; 24_600], CHUNK, BLOCK), Err(no(2)));
+    assert_eq!(plan(&[0xff; 24], CHUNK, BLOCK), Err(no_at(3, 0)));
+    assert_eq!(plan(&[0; 24], CHUNK, BLOCK), Err(no(12)));
+}
+
+#[test]
+fn block_sizes() {
+    let plan = |b| read_plan(&[], 0, b, 0, 0, &mut []);
+    let mut allowed = 65_536;
+    while allowed <= 16_777_216 {
+        assert_eq!(plan(allowed), Ok(0));
+        assert_eq!(plan(allowed - 1), Err(no(8)));
+        assert_eq!(plan(allowed + 1), Err(no(8)));
+        allowed *= 2;
+    }
+    for size in [0, 1, 32_768, 33_554_432, 1 << 63, u64::MAX] {
+        assert_eq!(plan(size), Err(no(8)));
+    }
+}
+
+/// One slice under 1,023 zeros: a view of 2,047 runs, too many for a tidied list.
+#[test]
+fn tidied_list_may_be_too_long() {
+    let holes = |n: u64| {
+        let mut rows = vec![(0, 7, 4_096, 0, 4_096)];
+        rows.extend((0..n).map(|i| (2 * i + 1, 0, 0, 0, 1)));
+        list(&rows)
+    };
+    let mut out = vec![0xee; 50_000];
+    assert_eq!(tidy(&holes(1_023), &mut out), Err(no(11)));
+    assert_eq!(tidy(&holes(1_023), &mut []), Err(no(11)));
+    assert!(out.iter().all(|byte| *byte == 0xee));
+    assert_eq!(view(&holes(1_023), 4_096, &mut out), Ok(2_047 * 24));
+    assert_eq!(tidy(&holes(512), &mut out), Err(no(11)));
+    assert_eq!(tidy(&holes(511), &mut out), Ok(1_023 * 24));
+}
+
+#[test]
+fn tidied_list_has_no_uncovered_runs() {
+    let mut out = [0xee; 100];
+    let list = list(&[(5, 0, 0, 0, 5), (20, 7, 10, 0, 10), (24, 7, 10, 4, 2), (9, 8, 1, 0, 0)]);
+    assert_eq!(tidy(&list, &mut out), Ok(48));
+    assert_eq!(rows(&out[..48]), [(5, 0, 0, 0, 5), (20, 7, 10, 0, 10)]);
+    assert!(out[48..].iter().all(|byte| *byte == 0xee));
+}
+
+#[test]
+fn short_buffers_keep_their_bytes() {
+    let list = list(&[(8, 7, 10, 0, 4)]);
+    let (mut plan, mut new_list) = ([0xee; 30], [0xee; 23]);
+    assert_eq!(compact(&list, BLOCK, 1, 9, &mut plan, &mut new_list), Err(no(12)));
+    assert_eq!((plan, new_list), ([0xee; 30], [0xee; 23]));
+    let (mut plan, mut new_list) = ([0xee; 29], [0xee; 24]);
+    assert_eq!(compact(&list, BLOCK, 1, 9, &mut plan, &mut new_list), Err(no(12)));
+    assert_eq!((plan, new_list), ([0xee; 29], [0xee; 24]));
+}
+
+#[test]
+fn wrong_numbers_come_before_short_buffers() {
+    assert_eq!(write_object_name(0, 0, 1, &mut []), Err(no(13)));
+    assert_eq!(write_object_name(1, 0, 1, &mut []), Err(no(12)));
+    assert_eq!(write_full_name(b"", 1, 0, 1, &mut []), Err(no(13)));
+    assert_eq!(write_full_name(b"v", 1, 0, 1, &mut [0; 17]), Err(no(12)));
+    assert_eq!(write_full_name(b"v", 1, 0, 1, &mut [0; 18]), Ok(18));
+    assert_eq!(write_redis_key(0, 1 << 32, &mut []), Err(no(13)));
+    assert_eq!(write_redis_key(0, 0, &mut [0; 3]), Err(no(12)));
+    assert_eq!(write_tkv_key(0, 0, &mut [0; 13]), Err(no(12)));
+    assert_eq!(write_tkv_key(0, 0, &mut [0; 14]), Ok(14));
+}

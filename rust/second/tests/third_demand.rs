@@ -1,0 +1,148 @@
+//! The third demand on random lists: covers, tidied lists, and compaction with
+//! a store, copying and appended records.
+
+mod common;
+use common::*;
+use rng::Rng;
+use second::limits::RECORD;
+use second::store::Store;
+use second::{compact_bytes, records, source_at, tidy_bytes, Record, Source};
+
+const BLOCK_SIZE: u64 = 65_536;
+/// Positions reach over two edges of blocks.
+const END: u64 = 150_000;
+const NEW: u64 = 9;
+
+fn some_list(random: &mut Rng, most: u64, ids: u64) -> Vec<u8> {
+    let rows: Vec<Row> = (0..random.below(most + 1)).map(|_| some_row(random, ids)).collect();
+    list(&rows)
+}
+
+fn some_row(random: &mut Rng, ids: u64) -> Row {
+    let pos = near_an_edge(random);
+    let len = random.below(40_000) >> random.below(16);
+    let id = random.below(ids + 1);
+    if id == 0 {
+        return (pos, 0, 0, 0, len);
+    }
+    let off = near_an_edge(random);
+    (pos, id, off + len + random.below(3), off, len)
+}
+
+fn near_an_edge(random: &mut Rng) -> u64 {
+    match random.below(3) {
+        0 => random.below(2) * BLOCK_SIZE + 65_530 + random.below(12),
+        1 => random.below(50),
+        _ => random.below(100_000),
+    }
+}
+
+/// Positions where something can change, and some others.
+fn positions(lists: &[&[Record]], random: &mut Rng) -> Vec<u64> {
+    let mut all: Vec<u64> = (0..200).map(|_| random.below(END)).collect();
+    for record in lists.iter().copied().flatten() {
+        for edge in [record.pos, record.end(), record.pos + BLOCK_SIZE, record.pos + 2 * BLOCK_SIZE]
+        {
+            all.extend(edge.saturating_sub(2)..edge + 2);
+        }
+    }
+    all.push(CHUNK - 1);
+    all.retain(|position| *position < CHUNK);
+    all
+}
+
+fn joined(first: &[u8], then: &[u8]) -> Vec<Record> {
+    records(&[first, then].concat()).expect("an accepted list")
+}
+
+#[test]
+fn old_and_new_list_read_the_same_after_copying() {
+    let mut random = Rng::new(3);
+    for round in 0..80 {
+        let old = some_list(&mut random, 8, 4);
+        let appended = some_list(&mut random, 3, NEW);
+        let k = random.below((old.len() / RECORD) as u64 + 1);
+        let before = Store::new(round);
+        let (plan, new) = compact_bytes(&old, BLOCK_SIZE, k, NEW).expect("a plan");
+        let size = if plan.is_empty() { 0 } else { Record::from_bytes(&new).size };
+        let after = before.copied(&plan, BLOCK_SIZE, NEW, size);
+        let (with_old, with_new) = (joined(&old, &appended), joined(&new, &appended));
+        let alone = joined(&old, &[]);
+        for p in positions(&[&with_old, &with_new], &mut random) {
+            let old_byte = after.read(&with_old, BLOCK_SIZE, p);
+            assert_eq!(old_byte, after.read(&with_new, BLOCK_SIZE, p), "position {p}");
+            let kept = after.read(&alone, BLOCK_SIZE, p);
+            assert_eq!(kept, before.read(&alone, BLOCK_SIZE, p), "position {p}");
+        }
+    }
+}
+
+/// The model can fail: a plan that lost a piece is noticed.
+#[test]
+fn lost_piece_is_noticed() {
+    let old = list(&[(0, 1, 10, 0, 10), (20, 2, 10, 0, 10)]);
+    let (plan, new) = compact_bytes(&old, BLOCK_SIZE, 2, NEW).expect("a plan");
+    let after = Store::new(1).copied(&plan[..30], BLOCK_SIZE, NEW, 30);
+    let differs = |p: &u64| {
+        after.read(&joined(&old, &[]), BLOCK_SIZE, *p)
+            != after.read(&joined(&new, &[]), BLOCK_SIZE, *p)
+    };
+    assert!((0..30).any(|p| differs(&p)));
+}
+
+fn over(upper: Source, lower: Source) -> Source {
+    if upper == Source::Nothing {
+        lower
+    } else {
+        upper
+    }
+}
+
+#[test]
+fn cover_of_a_split_list_is_one_part_over_the_other() {
+    let mut random = Rng::new(4);
+    for _ in 0..300 {
+        let all = joined(&some_list(&mut random, 9, 4), &[]);
+        let (first, then) = all.split_at(random.below(all.len() as u64 + 1) as usize);
+        for p in positions(&[&all], &mut random) {
+            assert_eq!(source_at(&all, p), over(source_at(then, p), source_at(first, p)));
+        }
+    }
+}
+
+#[test]
+fn tidied_run_inside_a_list_keeps_every_source() {
+    let mut random = Rng::new(5);
+    for _ in 0..300 {
+        let old = some_list(&mut random, 9, 4);
+        let count = old.len() / RECORD;
+        let from = random.below(count as u64 + 1) as usize;
+        let to = from + random.below((count - from) as u64 + 1) as usize;
+        let middle = tidy_bytes(&old[from * RECORD..to * RECORD]).expect("a tidied list");
+        let new = [&old[..from * RECORD], &middle, &old[to * RECORD..]].concat();
+        let (old, new) = (joined(&old, &[]), joined(&new, &[]));
+        for p in positions(&[&old], &mut random) {
+            assert_eq!(source_at(&old, p), source_at(&new, p));
+        }
+    }
+}
+
+/// A record cut in two and a record wholly hidden leave the cover as it was.
+#[test]
+fn lists_of_one_cover_tidy_to_the_same_bytes() {
+    let mut random = Rng::new(6);
+    for _ in 0..300 {
+        let old = some_list(&mut random, 9, 4);
+        let mut other: Vec<u8> = Vec::new();
+        for row in rows(&old) {
+            let cut = random.below(row.4 + 1);
+            let off = if row.1 == 0 { 0 } else { row.3 + cut };
+            let (front, back) =
+                ((row.0, row.1, row.2, row.3, cut), (row.0 + cut, row.1, row.2, off, row.4 - cut));
+            other.extend(list(&[(row.0, 0, 0, 0, row.4), back, front]));
+        }
+        let tidied = tidy_bytes(&old).expect("a tidied list");
+        assert_eq!(tidy_bytes(&other), Ok(tidied.clone()));
+        assert_eq!(tidy_bytes(&tidied), Ok(tidied));
+    }
+}
