@@ -13,6 +13,7 @@ pub mod NewList
 pub mod Firsts
 pub mod Compaction
 pub mod Answered
+pub mod Allowed
 pub mod ThirdDemand
 pub mod Calls
 pub mod Again
