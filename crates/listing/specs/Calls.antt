@@ -1,19 +1,26 @@
 -- What the call `text` is to do. Assumes nothing.
-use Prim.Native.Nat.{ℕ}
+use Prim.Native.Nat.{ℕ, _+_, _*_, _/_}
 use mathlib.Core.Bool.{Bool}
 use mathlib.Core.List.{List, [], _∷_}
 use lib.Dec.{ltb}
+use lib.ListN.{length}
 use Rattle.slices.specs.Numbers.{shortBuffer}
 use Rattle.slices.specs.Outcome.{Outcome, done, row, firstOf}
-use Rattle.listing.specs.Listing.{listing}
+use Rattle.codec.specs.Decimal.{maxDigits}
+use Rattle.slices.specs.Limits.{recordSize}
+use Rattle.listing.specs.Listing.{fileLimit, header, listing}
 
--- a line is at most 105 bytes: five numbers of at most 20 digits, with a byte after each
+-- a number and the byte after it
+abbrev pub fieldRoom : ℕ
+fieldRoom = maxDigits + 1
+
+-- a line of five numbers
 abbrev pub lineRoom : ℕ
-lineRoom = 105
+lineRoom = 5 * fieldRoom
 
--- room for the header and the 2,730 lines that a view of 65,536 bytes can have
+-- the header, and as many lines as a view of 65,536 bytes can have: 286,670 bytes
 abbrev pub textRoom : ℕ
-textRoom = 286670
+textRoom = length header + fileLimit / recordSize * lineRoom
 
 -- refusal 12 where the buffer has not that room, else the listing
 unfoldable pub textOutcome : Bool → List ℕ → ℕ → Outcome (List ℕ)

@@ -1,8 +1,10 @@
 // What the program prints for a list: its view in decimal, or its refusal.
 mod lines;
 
+use codec::decimal::DIGITS;
 use slices::Answer;
 use slices::CHUNK;
+use slices::RECORD;
 use slices::refusals;
 ghost use lib.ListN.{length};
 ghost use Rattle.slices.specs.Outcome.{Answers};
@@ -14,7 +16,7 @@ ghost use Rattle.listing.specs.Calls.{textOutcome};
 pub const FILE: usize = 65536;
 
 // Room for the longest listing.
-pub const TEXT: usize = 286670;
+pub const TEXT: usize = 20 + FILE / RECORD * 5 * (DIGITS + 1);
 
 // An empty buffer for a view.
 fn blank() -> [u8; FILE]

@@ -13,12 +13,12 @@ ghost use Rattle.codec.specs.Splice.{splice};
 ghost use Rattle.slices.specs.Limits.{recordSize};
 ghost use Rattle.slices.specs.Record.{records};
 ghost use Rattle.listing.specs.Listing.{fileLimit, header, field, line, lines, refusedLine};
-ghost use Rattle.listing.specs.Calls.{lineRoom, textRoom};
+ghost use Rattle.listing.specs.Calls.{fieldRoom, lineRoom, textRoom};
 
 // Puts n in decimal and a byte after it.
 fn put_field(out: &mut [u8], at: usize, n: u64, after: u8) -> usize
-    requires { ⌜ at + 21 ≤ length (now out) ⌝ }
-    ensures { λ r. ⌜ (r ≡ at + length (field n after)) × (r ≤ at + 21) × (now (out .exit) ≡ splice (now (out .entry)) at (field n after)) ⌝ }
+    requires { ⌜ at + fieldRoom ≤ length (now out) ⌝ }
+    ensures { λ r. ⌜ (r ≡ at + length (field n after)) × (r ≤ at + fieldRoom) × (now (out .exit) ≡ splice (now (out .entry)) at (field n after)) ⌝ }
 {
     let end = decimal::put_decimal(out, at, n);
     out[end] = after;

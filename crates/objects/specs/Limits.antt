@@ -1,5 +1,6 @@
 -- The limits of paper 01 on names and keys ("Blocks, names, keys"), each in this one place. Assumes nothing.
 use Prim.Native.Nat.{ℕ, _+_, _-_, _*_, _^_}
+use Rattle.codec.specs.Decimal.{maxDigits}
 
 -- "Id is 1 up to the largest 64-bit number", "Inode is any 64-bit number"
 abbrev pub maxNumber : ℕ
@@ -25,12 +26,12 @@ maxVolume = 63
 abbrev pub tkvSize : ℕ
 tkvSize = 14
 
--- ---- the room that a text takes at most, with 20 digits to a number
+-- ---- the room that a text takes at most
 
 -- two words of one byte, two numbers
 abbrev pub redisRoom : ℕ
-redisRoom = 2 + 2 * 20
+redisRoom = 2 + 2 * maxDigits
 
 -- `chunks/` and four words of one byte, five numbers
 abbrev pub nameRoom : ℕ
-nameRoom = 11 + 5 * 20
+nameRoom = 11 + 5 * maxDigits

@@ -16,10 +16,10 @@ use Rattle.slices.specs.Limits.{recordSize, chunk, maxRecords}
 use Rattle.slices.specs.Record.{recordAt, recordsFrom, count, records, Fits}
 use Rattle.slices.specs.Passes.{Passes}
 use Rattle.slices.specs.Numbers as number
-use Rattle.slices.specs.Outcome.{Outcome, refused, done, refusal, Row, firstOf, NoneHolds}
+use Rattle.slices.specs.Outcome.{Outcome, refused, done, refusal, Row, firstOf, NoneHolds, Given}
 use Rattle.slices.specs.Refusals.{notWhole, tooMany, pastChunk, tooLarge, zerosWithSlice, pastSlice, recordRows, rowsFrom, listRows, checkOutcome, checked}
 use Rattle.slices.specs.Steps.{fault}
-use Rattle.slices.proofs.Laws.Outcome.{none-passes, done-none, stops, row-holds, row-passes}
+use Rattle.slices.proofs.Laws.Outcome.{none-passes, done-none, stops, row-holds, row-passes, refused-exactly, answered-exactly}
 use Rattle.slices.specs.declared.Record.{Record}
 use Rattle.slices.specs.declared.Refusal.{Refusal}
 use Rattle.slices.specs.declared.Checked.the-variants.{Accepted, Refused}
@@ -209,6 +209,14 @@ pub accepted-exactly : (bs : List ℕ) → (checkOutcome bs ≡ done (count bs))
 unfolding checkOutcome
 accepted-exactly bs =
     ((λ h. none-accepts bs (done-none (count bs) (listRows bs) (count bs) h)), (λ a. none-passes (listRows bs) (done (count bs)) (accepts-none bs a)))
+
+pub check-refused-exactly : (bs : List ℕ) (r : Refusal) → (checkOutcome bs ≡ refused r) ↔ Given (listRows bs) r
+unfolding checkOutcome
+check-refused-exactly bs r = refused-exactly (count bs) (listRows bs) r
+
+pub check-answered-exactly : (bs : List ℕ) → (checkOutcome bs ≡ done (count bs)) ↔ NoneHolds (listRows bs)
+unfolding checkOutcome
+check-answered-exactly bs = answered-exactly (count bs) (listRows bs)
 
 -- ---- what the check's answer tells a call that makes it
 
