@@ -2,7 +2,9 @@
 pub mod Parts
 pub mod Span
 pub mod Scan
+pub mod Covered
 pub mod Ends
+pub mod Told
 pub mod Store
 pub mod Copy
 pub mod Fresh

@@ -1,7 +1,7 @@
 -- `compaction::ends::span` meets its contract: the records' own numbers tell the first and the last covered position. Assumes nothing.
 use mathlib.Core.Path.{sym, _∙_}
 use Rattle.slices.specs.Limits.{chunk}
-use Rattle.compaction.proofs.Laws.Ends.{ends-none, ends-some}
+use Rattle.compaction.proofs.Laws.Told.{ends-none, ends-some}
 use borrow.Author.Needs.{needs}
 use Rattle.compaction.proofs.ends.span.Statement.{statement}
 use Rattle.compaction.proofs.ends.span.Tie as tie
