@@ -3,6 +3,7 @@ use mathlib.Core.Path.{refl}
 use mathlib.Core.List.{flatMap}
 use Rattle.codec.specs.All.{All}
 use Rattle.codec.specs.Fixed.{bigEndian, numberAt}
+use Rattle.codec.specs.Groups.{groupsFrom}
 use Rattle.slices.specs.Limits.{chunk}
 use Rattle.slices.specs.Cover.{covers, given, layer, over, cover}
 use Rattle.slices.specs.Record.{encode, encodeAll, decode, recordAt, recordsFrom, count, records}
@@ -20,5 +21,5 @@ use Rattle.objects.specs.Names.{objectAllowed, objectName}
 use Rattle.cases.specs.Starred.{Holds, table}
 
 pub starred-cases : All Holds table
-unfolding Holds table flatMap bigEndian numberAt chunk covers given layer over cover encode encodeAll decode recordAt recordsFrom count records firstOf notWhole tooMany pastChunk tooLarge zerosWithSlice pastSlice rowsFrom listRows checkOutcome join runs next viewRuns asRecord written view chunkTooLong viewBytes viewRows viewOutcome decimal digitOf decimalAt scan writing reading readRedis objectAllowed objectName
+unfolding Holds table flatMap bigEndian numberAt chunk covers given layer over cover encode encodeAll decode recordAt groupsFrom recordsFrom count records firstOf notWhole tooMany pastChunk tooLarge zerosWithSlice pastSlice rowsFrom listRows checkOutcome join runs next viewRuns asRecord written view chunkTooLong viewBytes viewRows viewOutcome decimal digitOf decimalAt scan writing reading readRedis objectAllowed objectName
 starred-cases = (refl, (refl, (refl, (refl, (refl, (refl, (refl, (refl, (refl, (refl, (refl, (refl, (refl, (refl, tt))))))))))))))

@@ -1,6 +1,7 @@
 -- Laws of the definitions of specs/.
 pub mod Splice
 pub mod Fixed
+pub mod Groups
 pub mod Little
 pub mod Decimal
 pub mod Scan

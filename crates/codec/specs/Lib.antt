@@ -1,6 +1,7 @@
 pub mod All
 pub mod Splice
 pub mod Fixed
+pub mod Groups
 pub mod Little
 pub mod Decimal
 pub mod Scan

@@ -1,9 +1,9 @@
 -- A piece of a plan as bytes: a two-byte mark, then big-endian place from the start of the read (4), id (8), block (4), block length (4),
 -- place in block (4), length (4). Assumes nothing.
-use Prim.Native.Nat.{ℕ, zero, suc, _+_, _*_, _/_, _^_, _<_}
-use mathlib.Core.List.{List, [], _∷_, _++_, flatMap}
-use lib.ListN.{length}
+use Prim.Native.Nat.{ℕ, _+_, _^_, _<_}
+use mathlib.Core.List.{List, _++_, flatMap}
 use Rattle.codec.specs.Fixed.{bigEndian, numberAt}
+use Rattle.codec.specs.Groups.{groups}
 use Rattle.plans.specs.declared.Place.{Place}
 use Rattle.plans.specs.declared.Place.the-variants.{Hole, In}
 use Rattle.plans.specs.declared.Piece.{Piece}
@@ -51,14 +51,9 @@ decodePiece bs at =
       len = numberAt bs (at + 26) 4;
     }
 
--- n pieces of a plan's bytes, from piece i on
-unfoldable pub piecesFrom : List ℕ → ℕ → ℕ → List Piece
-piecesFrom bs i zero = []
-piecesFrom bs i (suc n) = decodePiece bs (i * pieceSize) ∷ piecesFrom bs (suc i) n
-
 -- the pieces of a plan's bytes
 unfoldable pub piecesIn : List ℕ → List Piece
-piecesIn bs = piecesFrom bs 0 (length bs / pieceSize)
+piecesIn bs = groups decodePiece pieceSize bs
 
 -- ---- a piece that 30 bytes can hold
 

@@ -1,9 +1,10 @@
 -- A slice record as bytes: pos (4), id (8), size (4), off (4), len (4), integers big-endian. proofs/Laws/Record.antt has the round trips.
 -- Assumes nothing.
-use Prim.Native.Nat.{ℕ, zero, suc, _+_, _*_, _/_, _^_, _<_}
-use mathlib.Core.List.{List, [], _∷_, _++_, flatMap}
+use Prim.Native.Nat.{ℕ, _+_, _*_, _/_, _^_, _<_}
+use mathlib.Core.List.{List, _++_, flatMap}
 use lib.ListN.{length}
 use Rattle.codec.specs.Fixed.{bigEndian, numberAt}
+use Rattle.codec.specs.Groups.{groupsFrom}
 use Rattle.slices.specs.Limits.{recordSize}
 use Rattle.slices.specs.declared.Record.{Record}
 
@@ -36,8 +37,7 @@ recordAt bs i = decode bs (i * recordSize)
 
 -- n records of a list, from record i on
 unfoldable pub recordsFrom : List ℕ → ℕ → ℕ → List Record
-recordsFrom bs i zero = []
-recordsFrom bs i (suc n) = recordAt bs i ∷ recordsFrom bs (suc i) n
+recordsFrom bs i n = groupsFrom decode recordSize bs i n
 
 -- how many whole records a list has
 unfoldable pub count : List ℕ → ℕ

@@ -3,7 +3,7 @@ use Prim.Native.Nat.{ℕ, zero, suc, _+_, _*_, _/_, _%_, _^_, _<_, _≤_}
 use native.Mathlib.Omega.{arith}
 use native.Mathlib.Nat.{add-zero, zero-add, add-suc, suc-add, add-assoc, mul-assoc, mul-comm, div-one, div-div-eq-div-mul, pow-suc, pow-succ'}
 use lib.Pow.{pow-add}
-use mathlib.Core.Path.{_≡_, refl, ap, _∙_}
+use mathlib.Core.Path.{_≡_, refl, sym, ap, _∙_}
 use mathlib.Core.List.{List, [], _∷_, _++_, append-assoc}
 use lib.ListN.{length, getD, take, drop, length-drop}
 use lib.Seq.{getD-append-add, getD-at, getD-drop, take-suc}
@@ -70,6 +70,13 @@ number-back (suc k) x rest h =
     let t = number-back k (x / 256) (x % 256 ∷ rest) b in
     let g = getD-at (bigEndian k (x / 256)) (x % 256) rest 0 k (length-bigEndian k (x / 256)) in
     ap (λ (l : List ℕ). numberAt (l ++ rest) 0 (suc k)) (bigEndian-last k x) ∙ rw (append-assoc, zero-add, t, g) (omega arith)
+
+-- a field of k bytes behind `pre` is read back
+pub field-back : (pre : List ℕ) (at k x : ℕ) (rest : List ℕ) → length pre ≡ at → x < 256 ^ k → numberAt (pre ++ (bigEndian k x ++ rest)) at k ≡ x
+field-back pre at k x rest e h =
+    ap (λ (n : ℕ). numberAt (pre ++ (bigEndian k x ++ rest)) n k) (sym e ∙ sym (add-zero (length pre)))
+    ∙ numberAt-behind pre (bigEndian k x ++ rest) 0 k
+    ∙ number-back k x rest h
 
 -- what is read is what was written
 pub number-forth : (bs : List ℕ) (at k : ℕ) → Bytes bs → at + k ≤ length bs → bigEndian k (numberAt bs at k) ≡ take k (drop at bs)

@@ -4,11 +4,11 @@ use Prim.Native.Nat.{ℕ, _^_, _<_}
 use mathlib.Core.Path.{_≡_, ap}
 use mathlib.Core.List.{List}
 use Rattle.codec.specs.All.{Bytes}
-use Rattle.slices.specs.Record.{count, records}
+use Rattle.slices.specs.Record.{records}
 use Rattle.slices.specs.Outcome.{done, Row, firstOf, NoneHolds}
-use Rattle.slices.specs.Refusals.{listRows, checkOutcome}
+use Rattle.slices.specs.Refusals.{listRows}
 use Rattle.slices.proofs.Laws.Outcome.{done-none, none-passes}
-use Rattle.slices.proofs.Laws.Refusals.{accepted-exactly}
+use Rattle.slices.proofs.Laws.Refusals.{none-accepts}
 use Rattle.views.specs.View.{tidiedBytes}
 use Rattle.views.specs.Calls.{tidyRows, tidyOutcome}
 use Rattle.compaction.specs.Calls.{Written, written, laterRows, compactRows, compactOutcome}
@@ -26,8 +26,7 @@ done-is rows a b h =
 -- a list that is not refused is sound
 module _ (bs : List ℕ) (b : Bytes bs) where
   list-sound : NoneHolds (listRows bs) → Sound (records bs)
-  unfolding checkOutcome
-  list-sound h = record { pass = accepted-exactly bs .0 (none-passes (listRows bs) (done (count bs)) h) .pass; fit = records-fit bs b }
+  list-sound h = record { pass = none-accepts bs h .pass; fit = records-fit bs b }
 
   pub tidied-wrote : (room : ℕ) (ws : List ℕ) → tidyOutcome bs room ≡ done ws → Sound (records bs) × (ws ≡ tidiedBytes (records bs))
   unfolding tidyOutcome tidyRows

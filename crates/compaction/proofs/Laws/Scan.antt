@@ -8,6 +8,7 @@ use mathlib.Core.Logic.{_≢_}
 use mathlib.Core.List.{List, [], _∷_}
 use lib.Dec.{eqb}
 use borrow.Author.Tests.{eq-eqb, ne-eqb}
+use Rattle.codec.specs.Groups.{groupsFrom}
 use Rattle.slices.specs.Limits.{chunk}
 use Rattle.slices.specs.Record.{recordAt, recordsFrom, count, records}
 use Rattle.compaction.specs.Calls.{stands}
@@ -23,11 +24,11 @@ module _ (bs : List ℕ) where
   left-all = let e : count bs - 0 ≡ count bs = omega arith in rw e
 
   pub left-none : (i : ℕ) → count bs ≤ i → recordsLeft i ≡ []
-  unfolding recordsFrom
+  unfolding recordsFrom groupsFrom
   left-none i h = let e : count bs - i ≡ 0 = omega arith in rw e
 
   pub left-more : (i : ℕ) → i < count bs → recordsLeft i ≡ recordAt bs i ∷ recordsLeft (i + 1)
-  unfolding recordsFrom
+  unfolding recordsFrom groupsFrom recordAt
   left-more i h =
       let e : count bs - i ≡ suc (count bs - suc i) = omega arith in
       rw (add-one, e)

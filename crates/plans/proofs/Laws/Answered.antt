@@ -5,11 +5,11 @@ use mathlib.Core.List.{List, [], _∷_, _++_}
 use borrow.Author.Tests.{ltb-false}
 use Rattle.codec.specs.All.{Bytes}
 use Rattle.slices.specs.Limits.{chunk}
-use Rattle.slices.specs.Record.{count, records}
+use Rattle.slices.specs.Record.{records}
 use Rattle.slices.specs.Outcome.{done, Row, NoneHolds}
-use Rattle.slices.specs.Refusals.{listRows, checkOutcome}
+use Rattle.slices.specs.Refusals.{listRows}
 use Rattle.slices.proofs.Laws.Outcome.{none-passes, done-none}
-use Rattle.slices.proofs.Laws.Refusals.{Accepts, accepted-exactly}
+use Rattle.slices.proofs.Laws.Refusals.{none-accepts}
 use Rattle.views.specs.Calls.{chunkTooLong}
 use Rattle.plans.specs.Piece.{piecesIn}
 use Rattle.plans.specs.Plan.{cutTo}
@@ -20,10 +20,6 @@ use Rattle.plans.proofs.Laws.Bytes.{plan-bytes-back}
 none-left : (xs ys : List Row) → NoneHolds (xs ++ ys) → NoneHolds xs
 none-left [] ys h = tt
 none-left (x ∷ xs) ys h = (h .0, none-left xs ys (h .1))
-
-none-accepts : (bs : List ℕ) → NoneHolds (listRows bs) → Accepts bs
-unfolding checkOutcome
-none-accepts bs h = accepted-exactly bs .0 (none-passes (listRows bs) (done (count bs)) h)
 
 module _ (bs : List ℕ) (b : Bytes bs) (l B start count room : ℕ) (out : List ℕ) (h : readOutcome bs l B start count room ≡ done out) where
   no-row : NoneHolds (readRows bs l B start count room)

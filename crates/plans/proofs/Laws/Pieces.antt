@@ -1,15 +1,16 @@
 -- Laws of pieces as bytes: how many there are, their parts as the code writes them, and that a plan that is written is read back.
 -- Assumes nothing.
-use Prim.Native.Nat.{ℕ, zero, suc, _+_, _*_, _/_, _^_, _<_}
+use Prim.Native.Nat.{ℕ, _+_, _*_}
 use native.Mathlib.Omega.{arith}
-use native.Mathlib.Nat.{add-zero, add-assoc}
+use native.Mathlib.Nat.{add-assoc}
 use mathlib.Core.Path.{_≡_, refl, sym, ap, _∙_}
-use mathlib.Core.List.{List, [], _∷_, _++_, append-assoc, append-nil, flatMap}
+use mathlib.Core.List.{List, [], _++_, append-assoc, append-nil}
 use lib.ListN.{length, length-append}
 use Rattle.codec.specs.All.{All}
-use Rattle.codec.specs.Fixed.{bigEndian, numberAt}
-use Rattle.codec.proofs.Laws.Fixed.{length-bigEndian, numberAt-behind, number-back}
-use Rattle.plans.specs.Piece.{pieceSize, encodePiece, encodePieces, decodePiece, piecesFrom, piecesIn, PieceFits}
+use Rattle.codec.specs.Fixed.{bigEndian}
+use Rattle.codec.proofs.Laws.Fixed.{length-bigEndian, numberAt-behind, field-back}
+use Rattle.codec.proofs.Laws.Groups.{length-written, groups-back}
+use Rattle.plans.specs.Piece.{pieceSize, encodePiece, encodePieces, decodePiece, piecesIn, PieceFits}
 use Rattle.plans.specs.Steps.{encodeObject}
 use Rattle.plans.specs.declared.Piece.{Piece}
 
@@ -27,18 +28,10 @@ unfolding encodePiece
 length-encodePiece p = simp (length-append, length-bigEndian)
 
 pub length-encodePieces : (ps : List Piece) → length (encodePieces ps) ≡ length ps * pieceSize
-unfolding encodePieces flatMap
-length-encodePieces [] = refl
-length-encodePieces (p ∷ ps) = length-append (encodePiece p) (encodePieces ps) ∙ omega (arith, length-encodePiece p, length-encodePieces ps)
+unfolding encodePieces
+length-encodePieces ps = length-written encodePiece pieceSize length-encodePiece ps
 
 -- ---- one piece
-
--- a field behind `pre`, of k bytes, is read back
-field-back : (pre : List ℕ) (at k x : ℕ) (rest : List ℕ) → length pre ≡ at → x < 256 ^ k → numberAt (pre ++ (bigEndian k x ++ rest)) at k ≡ x
-field-back pre at k x rest e h =
-    ap (λ (n : ℕ). numberAt (pre ++ (bigEndian k x ++ rest)) n k) (sym e ∙ sym (add-zero (length pre)))
-    ∙ numberAt-behind pre (bigEndian k x ++ rest) 0 k
-    ∙ number-back k x rest h
 
 decode-encode : (p : Piece) (rest : List ℕ) → PieceFits p → decodePiece (encodePiece p ++ rest) 0 ≡ p
 unfolding decodePiece encodePiece
@@ -76,30 +69,7 @@ decode-behind : (pre bs : List ℕ) (at : ℕ) → decodePiece (pre ++ bs) (leng
 unfolding decodePiece
 decode-behind pre bs at = simp (add-assoc, numberAt-behind pre bs)
 
-behind : (pre bs : List ℕ) → length pre ≡ pieceSize → (i n : ℕ) → piecesFrom (pre ++ bs) (suc i) n ≡ piecesFrom bs i n
-unfolding piecesFrom
-behind pre bs h i zero = refl
-behind pre bs h i (suc n) =
-    let e : suc i * pieceSize ≡ length pre + i * pieceSize = omega arith in
-    let t : piecesFrom (pre ++ bs) (suc (suc i)) n ≡ piecesFrom bs (suc i) n = behind pre bs h (suc i) n in
-    let d : decodePiece (pre ++ bs) (suc i * pieceSize) ≡ decodePiece bs (i * pieceSize) = rw e (decode-behind pre bs (i * pieceSize)) in
-    cc
-
--- the piece in front, and the others
-pieces-cons : (pre bs : List ℕ) → length pre ≡ pieceSize → piecesIn (pre ++ bs) ≡ decodePiece (pre ++ bs) 0 ∷ piecesIn bs
-unfolding piecesIn piecesFrom
-pieces-cons pre bs h =
-    let e : length (pre ++ bs) / pieceSize ≡ suc (length bs / pieceSize) = rw length-append (omega arith) in
-    rw e (ap (λ (ps : List Piece). decodePiece (pre ++ bs) 0 ∷ ps) (behind pre bs h 0 (length bs / pieceSize)))
-
-pieces-none : piecesIn [] ≡ []
-unfolding piecesIn piecesFrom
-pieces-none = refl
-
 -- a plan that is written is read back
 pub pieces-back : (ps : List Piece) → All PieceFits ps → piecesIn (encodePieces ps) ≡ ps
-unfolding encodePieces flatMap
-pieces-back [] f = pieces-none
-pieces-back (p ∷ ps) f =
-    pieces-cons (encodePiece p) (encodePieces ps) (length-encodePiece p)
-    ∙ rw (decode-encode p (encodePieces ps) (f .0), pieces-back ps (f .1))
+unfolding encodePieces piecesIn
+pieces-back ps f = groups-back decodePiece pieceSize (omega arith) decode-behind encodePiece length-encodePiece PieceFits decode-encode ps f

@@ -12,6 +12,7 @@ use lib.Dec.{ltb, eqb}
 use lib.ListN.{length}
 use borrow.Author.Tests.{ltb-false, eqb-true, eqb-false, eq-eqb, ne-eqb, lt-ltb, le-ltb}
 use Rattle.codec.specs.All.{All}
+use Rattle.codec.specs.Groups.{groupsFrom}
 use Rattle.slices.specs.Limits.{recordSize, chunk, maxRecords}
 use Rattle.slices.specs.Record.{recordAt, recordsFrom, count, records, Fits}
 use Rattle.slices.specs.Passes.{Passes}
@@ -149,19 +150,19 @@ module _ (bs : List ℕ) where
 
   module _ (i : ℕ) where
     pub check-next : i < count bs → fault (recordAt bs i) ≡ 0 → checkFrom bs i ≡ checkFrom bs (i + 1)
-    unfolding checkFrom rowsFrom recordsFrom
+    unfolding checkFrom rowsFrom recordsFrom groupsFrom recordAt
     check-next h e =
         let k : count bs - i ≡ suc (count bs - suc i) = omega arith in
         rw (add-one, k, fault-rows (recordAt bs i) i, eq-eqb (fault (recordAt bs i)) 0 e)
 
     pub check-here : i < count bs → fault (recordAt bs i) ≢ 0 → checkFrom bs i ≡ refused (refusal (fault (recordAt bs i)) i)
-    unfolding checkFrom rowsFrom recordsFrom
+    unfolding checkFrom rowsFrom recordsFrom groupsFrom recordAt
     check-here h e =
         let k : count bs - i ≡ suc (count bs - suc i) = omega arith in
         rw (k, fault-rows (recordAt bs i) i, ne-eqb (fault (recordAt bs i)) 0 e)
 
     pub check-end : count bs ≤ i → checkFrom bs i ≡ done (count bs)
-    unfolding checkFrom rowsFrom recordsFrom firstOf
+    unfolding checkFrom rowsFrom recordsFrom groupsFrom firstOf
     check-end h =
         let k : count bs - i ≡ 0 = omega arith in
         rw k
@@ -187,7 +188,7 @@ pub record Accepts (bs : List ℕ) : Type 0 where
   pub few : count bs ≤ maxRecords
   pub pass : All Passes (records bs)
 
-none-accepts : (bs : List ℕ) → NoneHolds (listRows bs) → Accepts bs
+pub none-accepts : (bs : List ℕ) → NoneHolds (listRows bs) → Accepts bs
 unfolding listRows notWhole tooMany
 none-accepts bs h =
     record {

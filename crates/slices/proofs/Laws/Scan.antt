@@ -4,6 +4,7 @@ use native.Mathlib.Omega.{arith}
 use mathlib.Core.Path.{_≡_, ap, _∙_}
 use mathlib.Core.Bool.{true, false}
 use mathlib.Core.List.{List, [], _∷_}
+use Rattle.codec.specs.Groups.{groupsFrom}
 use Rattle.slices.specs.Cover.{cover, over, layer, given, covers}
 use Rattle.slices.specs.Record.{recordAt, recordsFrom}
 use Rattle.slices.proofs.Laws.Cover.{cover-append, over-nothing-left, layer-covered, layer-not, given-over}
@@ -38,7 +39,7 @@ module _ (bs : List ℕ) (p : ℕ) where
   cover-hit i h e = cover-last i h ∙ rw (layer-covered (recordAt bs (i - 1)) p e) (given-over (recordAt bs (i - 1)) p (coverOf (i - 1)))
 
   pub cover-none : (i : ℕ) → i ≤ 0 → coverOf i ≡ Nothing
-  unfolding cover recordsFrom
+  unfolding cover recordsFrom groupsFrom
   cover-none i h =
       let e : i ≡ 0 = omega arith in
       rw e

@@ -7,6 +7,7 @@ use mathlib.Core.Path.{_≡_, refl, sym}
 use mathlib.Core.List.{flatMap}
 use lib.ListN.{length}
 use denote.Ref.{now}
+use Rattle.codec.specs.Groups.{groupsFrom}
 use Rattle.slices.specs.Limits.{recordSize}
 use Rattle.slices.specs.Record.{recordAt, recordsFrom, records, count}
 use Rattle.listing.specs.Listing.{line, lines}
@@ -23,7 +24,7 @@ abbrev μ-loop : tie.MeasureT-loop
 μ-loop out₀ start view n at₀ i₀ out at i = n - i
 
 loop-holds : tie.Need-loop-holds Inv-loop μ-loop
-unfolding recordsFrom lines flatMap
+unfolding recordsFrom groupsFrom lines flatMap
 loop-holds c = (zero-le, refl, omega arith, record { ends = sym (add-zero _); holds = sym (splice-nil _ _) })
 
 read-record-requires : tie.Need-read-record-requires Inv-loop μ-loop
