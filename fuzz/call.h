@@ -1,0 +1,78 @@
+/* A call as data, made with every check that holds for all calls. */
+#ifndef CALL_H
+#define CALL_H
+
+#include <stddef.h>
+#include <stdint.h>
+
+#include "ezumokarin.h"
+#include "record.h"
+
+enum kind {
+    CHECK,
+    VIEW,
+    TIDY,
+    READ_PLAN,
+    COMPACT,
+    WRITE_OBJECT_NAME,
+    WRITE_FULL_NAME,
+    READ_OBJECT_NAME,
+    READ_FULL_NAME,
+    WRITE_REDIS_KEY,
+    WRITE_TKV_KEY,
+    READ_REDIS_KEY,
+    READ_TKV_KEY,
+    KINDS
+};
+
+enum { REFUSALS = 14 }; /* with 0 for an answer */
+
+/* Numbers in the order in which the call takes them; bytes are its list, volume or text. */
+typedef struct call {
+    enum kind kind;
+    uint64_t number[4];
+    const uint8_t *bytes;
+    size_t len;
+    uint8_t places; /* where input and outputs stand: 2 bits each */
+    uint8_t salt;
+} call;
+
+/* value: count; or plan and list; or id, block, length, volume; or inode, index. */
+typedef struct answer {
+    uint64_t refusal, place, value[4];
+    uint8_t *written[2]; /* copies of what was written, malloc'ed exactly */
+} answer;
+
+/* The call's name without ezk_. */
+const char *name(enum kind kind);
+
+/* Number of outputs: 0 to 2. */
+unsigned outputs(enum kind kind);
+
+/* Makes the call with rooms of these lengths. Free the answer with done_with. */
+answer make(const call *call, const size_t room[2]);
+
+/* Makes the call with room for any answer. */
+answer make_ample(const call *call);
+
+void done_with(answer *answer);
+
+/* Ends the program with what was found. */
+_Noreturn void found(const call *call, const char *what);
+
+/* Finds fault unless it holds. */
+void must(const call *call, int holds, const char *what);
+
+/* Counts an answer, here and for the fuzzer. */
+void tally(enum kind kind, const answer *a);
+
+void print_tally(void);
+
+/* The first refusal in the header's order, without those that need the answer: 11, 12,
+ * and 13 in reading. 0 if there is none. */
+uint64_t expected_refusal(const call *call, uint64_t *place);
+
+/* What must hold of this kind of call, for an answer in ample room. */
+void keep_laws(const call *call, const answer *answer);
+
+#endif

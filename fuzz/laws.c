@@ -1,0 +1,34 @@
+#include "laws.h"
+
+#include <string.h>
+
+call other(const call *call, enum kind kind, const uint8_t *bytes, size_t len)
+{
+    return (struct call){
+        .kind = kind, .bytes = bytes, .len = len, .places = call->places, .salt = call->salt};
+}
+
+int same(const answer *a, const uint8_t *bytes, size_t len)
+{
+    return a->refusal == 0 && a->value[0] == len && (!len || !memcmp(a->written[0], bytes, len));
+}
+
+void keep_laws(const call *call, const answer *a)
+{
+    if (a->refusal && a->refusal != EZK_TIDIED_RECORDS)
+        return;
+    switch (call->kind) {
+    case CHECK:
+        return check_law(call, a);
+    case VIEW:
+        return view_law(call, a);
+    case TIDY:
+        return tidy_law(call, a);
+    case READ_PLAN:
+        return plan_law(call, a);
+    case COMPACT:
+        return compact_law(call, a);
+    default:
+        return text_law(call, a);
+    }
+}

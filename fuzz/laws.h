@@ -1,0 +1,20 @@
+/* What must hold of an answer, seen from the header and from other calls alone. */
+#ifndef LAWS_H
+#define LAWS_H
+
+#include "call.h"
+
+void check_law(const call *call, const answer *a);
+void view_law(const call *call, const answer *a);
+void tidy_law(const call *call, const answer *a);
+void plan_law(const call *call, const answer *a);
+void compact_law(const call *call, const answer *a);
+void text_law(const call *call, const answer *a);
+
+/* Another call, with memory lent in the same way; its numbers are 0. */
+call other(const call *call, enum kind kind, const uint8_t *bytes, size_t len);
+
+/* Whether the answer is that these bytes were written. */
+int same(const answer *a, const uint8_t *bytes, size_t len);
+
+#endif

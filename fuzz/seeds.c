@@ -1,0 +1,190 @@
+/*
+ * seeds FOLDER: writes the inputs that the fuzzer starts from: the cases of the requirements,
+ * and limits from both sides.
+ */
+#include "call.h"
+#include "input.h"
+
+#include <stdio.h>
+#include <stdlib.h>
+#include <string.h>
+
+enum { MIB = 1 << 20, BLOCK = 4 * MIB, LONGEST = 1025 * EZK_RECORD + 1 };
+
+static const char *folder;
+static unsigned seeds;
+
+/* One input; where its memory stands and how long its rooms are changes from seed to seed. */
+static void seed(enum kind kind, unsigned shape, const uint64_t number[4], const void *bytes,
+                 size_t len)
+{
+    static uint8_t input[BYTES + LONGEST];
+    char path[4096];
+    input[KIND] = (uint8_t)kind;
+    input[SHAPE] = (uint8_t)shape;
+    input[STANDS] = (uint8_t)(seeds * 27);
+    input[SALT] = (uint8_t)seeds;
+    put(put(input + ROOMS, seeds, 2), seeds / 2, 2);
+    for (int i = 0; i < 4; i++)
+        put(input + NUMBERS + 8 * i, number[i], 8);
+    memcpy(input + BYTES, bytes, len);
+    snprintf(path, sizeof path, "%s/%03u", folder, seeds++);
+    FILE *file = fopen(path, "wb");
+    if (!file || fwrite(input, 1, BYTES + len, file) != BYTES + len || fclose(file)) {
+        perror(path);
+        exit(1);
+    }
+}
+
+#define WITH(...) ((const uint64_t[4]){__VA_ARGS__})
+
+static void list_seeds(unsigned shape, const uint8_t *list, size_t len)
+{
+    seed(CHECK, shape, WITH(0), list, len);
+    seed(VIEW, shape, WITH(EZK_CHUNK), list, len);
+    seed(TIDY, shape, WITH(0), list, len);
+    seed(READ_PLAN, shape, WITH(EZK_CHUNK, BLOCK, 0, EZK_CHUNK), list, len);
+    seed(COMPACT, shape, WITH(BLOCK, 1, 1000), list, len);
+}
+
+static size_t list_of(uint8_t *list, const record *records, size_t count)
+{
+    uint8_t *to = list;
+    for (size_t i = 0; i < count; i++)
+        to = put_record(to, records[i]);
+    return (size_t)(to - list);
+}
+
+static void lengths(void)
+{
+    static const uint8_t zeros[LONGEST];
+    const size_t lens[] = {0, 23, 24, 25, 24576, 24600, 24601};
+    seed(VIEW, AS_IS, WITH(0), zeros, 0);
+    seed(VIEW, AS_IS, WITH(5), zeros, 0);
+    for (size_t i = 0; i < sizeof lens / sizeof *lens; i++)
+        list_seeds(AS_IS, zeros, lens[i]);
+}
+
+static void single_records(void)
+{
+    const record records[] = {
+        {67108863, 0, 0, 0, 1},
+        {67108863, 0, 0, 0, 2},      /* 3 */
+        {0, 7, EZK_CHUNK + 1, 0, 1}, /* 4 */
+        {0, 0, 1, 0, 1},             /* 5 */
+        {0, 0, 0, 1, 1},             /* 5 */
+        {0, 7, 10, 4, 6},
+        {0, 7, 10, 4, 7}, /* 6 */
+        {0, 3, 5 * MIB, 0, 5 * MIB},
+        {0, 7, 10, 10, 0},
+    };
+    uint8_t list[EZK_RECORD];
+    for (size_t i = 0; i < sizeof records / sizeof *records; i++)
+        list_seeds(AS_IS, list, list_of(list, &records[i], 1));
+}
+
+static void small_lists(void)
+{
+    const record hidden[] = {{0, 7, 20, 0, 20}, {4, 0, 0, 0, 8}};
+    const record three[] = {{10 * MIB, 10, 30 * MIB, 0, 30 * MIB},
+                            {20 * MIB, 11, 16 * MIB, 0, 16 * MIB},
+                            {16 * MIB, 12, 10 * MIB, 0, 10 * MIB}};
+    /* One id in two sizes: two runs of the view, but one object. */
+    const record sizes[] = {{0, 11, 40 * MIB, 0, 40 * MIB}, {0, 11, 16 * MIB, 0, 160}};
+    uint8_t list[3 * EZK_RECORD];
+    list_seeds(AS_IS, list, list_of(list, sizes, 2));
+    for (unsigned shape = AS_IS; shape < 256; shape += shape < MANY ? 1 : 7 * SHAPES)
+        list_seeds(shape, list, list_of(list, hidden, 2));
+    for (unsigned records = 28; records < 36; records++) /* times 16 */
+        list_seeds(MANY + SHAPES * records, list, list_of(list, &(record){1, 1, 1, 0, 1}, 1));
+    size_t len = list_of(list, three, 3);
+    list_seeds(AS_IS, list, len);
+    list_seeds(SOUND, list, len);
+    seed(READ_PLAN, AS_IS, WITH(EZK_CHUNK, BLOCK, 15728640, 2097152), list, len);
+    seed(READ_PLAN, AS_IS, WITH(EZK_CHUNK, 65536, 10 * MIB, 8 * MIB), list, len);
+    seed(READ_PLAN, AS_IS, WITH(EZK_CHUNK, 16 * MIB, UINT64_MAX, UINT64_MAX), list, len);
+    seed(READ_PLAN, AS_IS, WITH(EZK_CHUNK, 65537, 0, 1), list, len);     /* 8 */
+    seed(READ_PLAN, AS_IS, WITH(EZK_CHUNK + 1, BLOCK, 0, 1), list, len); /* 7 */
+    seed(VIEW, AS_IS, WITH(EZK_CHUNK + 1), list, len);                   /* 7 */
+    seed(COMPACT, AS_IS, WITH(32768, 1, 1000), list, len);               /* 8 */
+    seed(COMPACT, AS_IS, WITH(BLOCK, 1, 12), list, len);                 /* 9 */
+    seed(COMPACT, AS_IS, WITH(BLOCK, 4, 1000), list, len);               /* 10 */
+    for (uint64_t k = 0; k <= 3; k++)
+        seed(COMPACT, AS_IS, WITH(65536, k, UINT64_MAX), list, len);
+}
+
+/* A slice under zeros at every second byte: as many runs as the slice has bytes. */
+static void combs(void)
+{
+    static record comb[1024];
+    static uint8_t list[sizeof comb / sizeof *comb * EZK_RECORD];
+    for (uint64_t bytes = 1023; bytes <= 1025; bytes++) {
+        size_t count = 1 + bytes / 2;
+        comb[0] = (record){0, 7, bytes, 0, bytes};
+        for (size_t i = 1; i < count; i++)
+            comb[i] = (record){2 * i - 1, 0, 0, 0, 1};
+        list_seeds(AS_IS, list, list_of(list, comb, count));
+    }
+}
+
+static void names(void)
+{
+    const char *const texts[] = {
+        "chunks/1/1234/1234567_2_100",
+        "chunks/0/0/3_0_4194304",
+        "chunks/0/0/3_1_1048576",
+        "jfstest/chunks/0/0/10_7_2097152",
+        "foo-dev/chunks/18446744073709/18446744073709551/18446744073709551615_1023_16777216",
+    };
+    for (size_t i = 0; i < sizeof texts / sizeof *texts; i++) {
+        seed(READ_OBJECT_NAME, AS_IS, WITH(0), texts[i], strlen(texts[i]));
+        seed(READ_FULL_NAME, AS_IS, WITH(0), texts[i], strlen(texts[i]));
+    }
+    seed(READ_OBJECT_NAME, SOUND, WITH(1234567, 2, 100), "", 0);
+    seed(READ_FULL_NAME, SOUND, WITH(1234567, 2, 100), "", 0);
+    const uint64_t numbers[][4] = {
+        {1234567, 2, 100}, {3, 1, MIB}, {UINT64_MAX, 1023, 16 * MIB}, {0, 1024, 16 * MIB + 1}};
+    char volume[64];
+    memset(volume, 'z', sizeof volume);
+    for (size_t i = 0; i < sizeof numbers / sizeof *numbers; i++) {
+        seed(WRITE_OBJECT_NAME, AS_IS, numbers[i], "", 0);
+        seed(WRITE_FULL_NAME, AS_IS, numbers[i], "jfs-0test", 9);
+        for (size_t len = 0; len <= 64; len += 1 + 61 * (len == 1))
+            seed(WRITE_FULL_NAME, AS_IS, numbers[i], volume, len);
+    }
+}
+
+static void keys(void)
+{
+    const char *const redis[] = {"c100_0", "c100_0,5", "c0100_0",
+                                 "c18446744073709551615_4294967295",
+                                 "c18446744073709551616_4294967296"};
+    for (size_t i = 0; i < sizeof redis / sizeof *redis; i++)
+        seed(READ_REDIS_KEY, AS_IS, WITH(0), redis[i], strlen(redis[i]));
+    seed(READ_REDIS_KEY, SOUND, WITH(100, 2), "", 0);
+    seed(READ_TKV_KEY, SOUND, WITH(100, 2), "", 0);
+    for (size_t len = 13; len <= 15; len++)
+        seed(READ_TKV_KEY, AS_IS, WITH(0), "A\4\0\0\0\0\0\0\0C\0\0\0\2", len);
+    const uint64_t numbers[][4] = {
+        {100, 0}, {4, 2}, {0, 0}, {UINT64_MAX, UINT32_MAX}, {0, 1ull << 32}};
+    for (size_t i = 0; i < sizeof numbers / sizeof *numbers; i++) {
+        seed(WRITE_REDIS_KEY, AS_IS, numbers[i], "", 0);
+        seed(WRITE_TKV_KEY, AS_IS, numbers[i], "", 0);
+    }
+}
+
+int main(int argc, char **argv)
+{
+    if (argc != 2) {
+        fprintf(stderr, "usage: seeds FOLDER\n");
+        return 2;
+    }
+    folder = argv[1];
+    lengths();
+    single_records();
+    small_lists();
+    combs();
+    names();
+    keys();
+    return 0;
+}

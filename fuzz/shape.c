@@ -1,0 +1,129 @@
+#include "shape.h"
+
+#include <string.h>
+
+#include "input.h"
+
+/* SMALL and MANY lists have positions up to NEAR and few ids, so that much overlaps. */
+enum { NEAR = 64, IDS = 4, UNDER_ALL = 4096 };
+
+static record sound(record r, enum shape shape, size_t turn)
+{
+    uint64_t end = shape == SOUND ? EZK_CHUNK : NEAR;
+    r.pos %= end + 1;
+    r.len %= end - r.pos + 1;
+    if (shape == MANY)
+        r.pos += 2 * turn;
+    if (shape != SOUND)
+        r.id %= IDS;
+    if (r.id == 0) {
+        r.size = r.off = 0;
+    } else {
+        r.off %= end - r.len + 1;
+        r.size = r.off + r.len + r.size % (end - r.off - r.len + 1);
+    }
+    return r;
+}
+
+/* What follows the last whole record is dropped. */
+static void shape_list(call *call, uint8_t *bytes, enum shape shape, size_t many)
+{
+    static uint8_t given[LIST_MAX];
+    size_t records = call->len / EZK_RECORD, made = shape == MANY && records ? many : records;
+    memcpy(given, bytes, call->len);
+    uint8_t *to = bytes;
+    for (size_t i = 0; i < made; i++) {
+        record r = sound(record_at(given, i % records), shape, i / records);
+        /* A first record under all others: the tidied list can be longer than the list. */
+        if (shape == MANY && i == 0 && r.id)
+            r = (record){0, r.id, UNDER_ALL, 0, UNDER_ALL};
+        to = put_record(to, r);
+    }
+    call->len = (size_t)(to - bytes);
+}
+
+/* 2^15 to 2^25: one power too many below, and one above. */
+static uint64_t block_size(uint64_t number)
+{
+    return 1ull << (15 + number % 11);
+}
+
+/* Into the range that the call allows, or one above it; near the records of small lists. */
+static void shape_numbers(call *call, enum shape shape)
+{
+    uint64_t *n = call->number;
+    uint64_t end = shape == SOUND ? EZK_CHUNK : shape == SMALL ? 2 * NEAR : 40 * NEAR;
+    switch (call->kind) {
+    case VIEW:
+        n[0] %= end + 2;
+        return;
+    case READ_PLAN:
+        n[0] %= end + 2;
+        n[1] = block_size(n[1]);
+        n[2] %= end + 2;
+        n[3] %= end + 2;
+        return;
+    case COMPACT:
+        n[0] = block_size(n[0]);
+        n[1] %= call->len / EZK_RECORD + 2;
+        n[2] = shape == SOUND ? n[2] : n[2] % (4 * IDS);
+        return;
+    case WRITE_OBJECT_NAME:
+    case WRITE_FULL_NAME:
+        n[1] %= 1025;
+        n[2] %= 16777218;
+        return;
+    case WRITE_REDIS_KEY:
+    case WRITE_TKV_KEY:
+        n[1] %= (1ull << 32) + 1;
+        return;
+    default:
+        return;
+    }
+}
+
+/* What the writer makes of the numbers, then the given bytes in pairs: a place and a byte. */
+static void spoil_text(call *call, uint8_t *bytes, enum kind writer, enum shape shape)
+{
+    struct call writing = {.kind = writer, .bytes = (const uint8_t *)"jfs-0", .len = 5};
+    memcpy(writing.number, call->number, sizeof writing.number);
+    shape_numbers(&writing, shape);
+    answer written = make_ample(&writing);
+    size_t len = written.value[0], pairs = call->len / 2;
+    for (size_t i = 0; len && i < pairs; i++)
+        written.written[0][bytes[2 * i] % len] = bytes[2 * i + 1];
+    /* An odd byte at the end is added to the text. */
+    uint8_t odd = call->len ? bytes[call->len - 1] : 0;
+    memcpy(bytes, written.written[0], len);
+    if (call->len % 2)
+        bytes[len++] = odd;
+    call->len = len;
+    done_with(&written);
+}
+
+void give_shape(call *call, uint8_t *bytes, uint8_t choice)
+{
+    enum shape shape = choice % SHAPES;
+    if (shape == AS_IS)
+        return;
+    switch (call->kind) {
+    case READ_OBJECT_NAME:
+        return spoil_text(call, bytes, WRITE_OBJECT_NAME, shape);
+    case READ_FULL_NAME:
+        return spoil_text(call, bytes, WRITE_FULL_NAME, shape);
+    case READ_REDIS_KEY:
+        return spoil_text(call, bytes, WRITE_REDIS_KEY, shape);
+    case READ_TKV_KEY:
+        return spoil_text(call, bytes, WRITE_TKV_KEY, shape);
+    case CHECK:
+    case VIEW:
+    case TIDY:
+    case READ_PLAN:
+    case COMPACT:
+        shape_list(call, bytes, shape, choice / SHAPES * 1030 / (255 / SHAPES));
+        break;
+    default:
+        break;
+    }
+    shape_numbers(call, shape);
+}
