@@ -1,7 +1,6 @@
 -- Laws of the definitions of specs/.
 pub mod Parts
 pub mod Steps
-pub mod Puts
 pub mod Written
 pub mod Inverse
 pub mod Volume

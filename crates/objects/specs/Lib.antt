@@ -2,7 +2,6 @@ pub mod Limits
 pub mod Words
 pub mod Parts
 pub mod Steps
-pub mod Puts
 pub mod Written
 pub mod Inverse
 pub mod Keys

@@ -9,9 +9,9 @@ ghost use mathlib.Core.Path.{_≡_};
 ghost use mathlib.Core.List.{[]};
 ghost use Prim.Native.Nat.{_+_, _*_, _≤_, min, max};
 ghost use lib.ListN.{length};
+ghost use Rattle.codec.specs.Splice.{Puts};
 ghost use Rattle.objects.specs.Parts.{onward, scan};
 ghost use Rattle.objects.specs.Limits.{nameRoom};
-ghost use Rattle.objects.specs.Puts.{Puts};
 ghost use Rattle.objects.specs.Written.{reading};
 ghost use Rattle.objects.specs.Names.{nameForm, objectOf, objectAnswer, objectAllowed, objectName};
 

@@ -11,10 +11,9 @@ use slices::refusals;
 ghost use mathlib.Core.Path.{_≡_};
 ghost use Prim.Native.Nat.{_+_, _≤_};
 ghost use lib.ListN.{length};
-ghost use Rattle.codec.specs.Splice.{splice};
+ghost use Rattle.codec.specs.Splice.{splice, Puts};
 ghost use Rattle.slices.specs.Outcome.{Answers};
 ghost use Rattle.objects.specs.Limits.{redisRoom, tkvSize};
-ghost use Rattle.objects.specs.Puts.{Puts};
 ghost use Rattle.objects.specs.Keys.{redisKey, readRedis, writeRedis, tkvKey, tkvShape, readTkv, writeTkv, chunkAnswer};
 
 // Puts a Redis key into a line.

@@ -10,9 +10,9 @@ use slices::refusals;
 ghost use mathlib.Core.Path.{_≡_};
 ghost use Prim.Native.Nat.{_+_, _≤_};
 ghost use lib.ListN.{length};
+ghost use Rattle.codec.specs.Splice.{Puts};
 ghost use Rattle.slices.specs.Outcome.{Answers};
 ghost use Rattle.objects.specs.Limits.{nameRoom};
-ghost use Rattle.objects.specs.Puts.{Puts};
 ghost use Rattle.objects.specs.Names.{readObject, objectAnswer, writeObject, readFull, fullAnswer, volumePart, writeFull, fullName};
 
 // Writes the name of an object.

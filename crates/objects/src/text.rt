@@ -7,8 +7,8 @@ ghost use mathlib.Core.List.{[], _∷_, _++_};
 ghost use Prim.Native.Nat.{_+_, _≤_};
 ghost use lib.ListN.{length};
 ghost use Rattle.codec.specs.Decimal.{decimal};
+ghost use Rattle.codec.specs.Splice.{Puts};
 ghost use Rattle.slices.specs.Outcome.{done, firstOf, tooShort, Answers};
-ghost use Rattle.objects.specs.Puts.{Puts};
 
 // Puts a word into a line.
 pub(crate) fn put_word(line: &mut [u8], at: usize, word: &[u8]) -> usize

@@ -59,7 +59,7 @@ module _ {A : Type 0} (d : List ℕ → ℕ → A) (w : ℕ) where
   module _ (e : A → List ℕ) (bs : List ℕ) (forth : (at : ℕ) → at + w ≤ length bs → e (d bs at) ≡ take w (drop at bs)) where
     from-forth : (i n : ℕ) → (i + n) * w ≤ length bs → flatMap e (groupsFrom d w bs i n) ≡ take (n * w) (drop (i * w) bs)
     unfolding flatMap groupsFrom
-    from-forth i zero l = rw (zero-mul)
+    from-forth i zero l = rw zero-mul
     from-forth i (suc n) l =
         let l' : i * w + (suc n * w) ≤ length bs = rw add-mul at l in
         let a = forth (i * w) (omega (arith, suc-mul n w)) in

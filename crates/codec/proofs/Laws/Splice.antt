@@ -1,13 +1,13 @@
 -- Laws of bytes that are put into a buffer. Assumes nothing.
 use Prim.Native.Nat.{ℕ, suc, _+_, _<_, _≤_}
 use native.Mathlib.Omega.{arith}
-use native.Mathlib.Nat.{add-zero, add-assoc}
+use native.Mathlib.Nat.{add-zero, zero-add, add-assoc}
 use native.Mathlib.Numerals.{add-one}
 use mathlib.Core.Path.{_≡_, sym, ap, _∙_}
-use mathlib.Core.List.{List, [], _∷_, _++_, append-assoc}
-use lib.ListN.{length, getD, take, drop, set, length-append, length-take, length-drop, take-append-drop}
+use mathlib.Core.List.{List, [], _∷_, _++_, append-assoc, append-nil}
+use lib.ListN.{length, getD, take, drop, set, length-append, length-take, length-drop, take-append-drop, drop-of-length-le}
 use lib.Seq.{set-split, take-at, drop-at, take-suc, length-take-le, drop-append-add, drop-drop}
-use Rattle.codec.specs.Splice.{splice}
+use Rattle.codec.specs.Splice.{splice, Puts}
 
 pub splice-nil : (out : List ℕ) (at : ℕ) → splice out at [] ≡ out
 unfolding splice
@@ -88,20 +88,27 @@ pub take-splice : (out bs : List ℕ) (n : ℕ) → n ≡ length bs → take n (
 unfolding splice
 take-splice out bs n h = take-at bs (drop (0 + length bs) out) n (sym h)
 
--- what a step that puts bytes leaves: o is the buffer `out` with bs from `at` on, and e the place after them
-pub record Put (out : List ℕ) (at : ℕ) (bs o : List ℕ) (e : ℕ) : Type 0 where
-  pub ends : e ≡ at + length bs
-  pub holds : o ≡ splice out at bs
+-- bytes as many as the buffer has are all of it
+pub splice-whole : (out bs : List ℕ) → length out ≡ length bs → splice out 0 bs ≡ bs
+unfolding splice
+splice-whole out bs e = let h : length out ≤ length bs = omega arith in rw (zero-add, drop-of-length-le out h, append-nil)
+
+-- ---- steps that put bytes
 
 -- a step behind another
-pub put-then : {out o₁ o₂ : List ℕ} {at e f : ℕ} (a b : List ℕ) → Put out at a o₁ e → Put o₁ e b o₂ f → e ≤ length out → Put out at (a ++ b) o₂ f
-put-then {out} {o₁} {o₂} {at} {e} {f} a b p q h =
-    let l : at + length a ≤ length out = omega (arith, p .ends) in
-    let s = splice-append out at a l b in
+pub puts-then : {out middle last a b : List ℕ} {at room more mid end : ℕ} → Puts out at a room mid middle → Puts middle mid b more end last
+    → at + room ≤ length out → Puts out at (a ++ b) (room + more) end last
+puts-then {out} {middle} {last} {a} {b} {at} {room} {more} {mid} {end} p q h =
     record {
-      ends = q .ends ∙ rw (p .ends, length-append) (omega arith);
-      holds = q .holds ∙ rw (p .holds, p .ends) s;
+      leaves = q .leaves ∙ rw (p .leaves, p .ends) (splice-append out at a (omega arith) b);
+      ends = rw length-append (omega arith);
+      fits = rw length-append (omega arith);
     }
 
-pub put-as : {out o : List ℕ} {at e : ℕ} (a b : List ℕ) → a ≡ b → Put out at a o e → Put out at b o e
-put-as a b h p = rw (← h) p
+-- the same bytes in another grouping, and more room
+pub puts-as : {out last a : List ℕ} {at room more end : ℕ} (b : List ℕ) → Puts out at a room end last → a ≡ b → room ≤ more → Puts out at b more end last
+puts-as b p e h = rw (← e) (record { leaves = p .leaves; ends = p .ends; fits = omega (arith, p .fits) })
+
+-- the front of the buffer is what was put there
+pub puts-front : {out last a : List ℕ} {room end : ℕ} → Puts out 0 a room end last → take end last ≡ a
+puts-front {out} {last} {a} {room} {end} p = ap (take end) (p .leaves) ∙ take-splice out a end (p .ends ∙ zero-add (length a))

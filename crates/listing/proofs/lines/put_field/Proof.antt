@@ -4,8 +4,9 @@ use mathlib.Core.Path.{refl}
 use mathlib.Core.List.{[], _∷_}
 use denote.Ref.{now}
 use Rattle.codec.specs.Decimal.{decimal}
+use Rattle.codec.specs.Splice.{Puts}
 use Rattle.listing.specs.Listing.{field}
-use Rattle.codec.proofs.Laws.Splice.{Put, put-then, splice-one}
+use Rattle.codec.proofs.Laws.Splice.{puts-then, splice-one}
 use borrow.Author.Needs.{needs}
 use Rattle.listing.proofs.lines.put_field.Statement.{statement}
 use Rattle.listing.proofs.lines.put_field.Tie as tie
@@ -27,10 +28,10 @@ unfolding field
 returns c =
     let put = c .before .before in
     let a = put .before .before .before .args in
-    let d : Put (now (a .out)) (a .at) (decimal (a .n)) _ _ = record { ends = put .put-decimal .ensures .0; holds = put .put-decimal .ensures .2 } in
-    let s : Put (put .put-decimal .last .0) (put .put-decimal .result) (a .after ∷ []) _ _ = record { ends = refl; holds = splice-one (put .put-decimal .last .0) (put .put-decimal .result) (a .after) (omega arith) } in
-    let both = put-then (decimal (a .n)) (a .after ∷ []) d s (omega arith) in
-    (both .ends, omega arith, both .holds)
+    let d : Puts (now (a .out)) (a .at) (decimal (a .n)) 20 _ _ = record { leaves = put .put-decimal .ensures .2; ends = put .put-decimal .ensures .0; fits = omega arith } in
+    let s : Puts (put .put-decimal .last .0) (put .put-decimal .result) (a .after ∷ []) 1 _ _ = record { leaves = splice-one (put .put-decimal .last .0) (put .put-decimal .result) (a .after) (omega arith); ends = refl; fits = omega arith } in
+    let both = puts-then d s (omega arith) in
+    (both .ends, omega arith, both .leaves)
 
 pub put-field-spec : {M : Type 1} → statement M
 put-field-spec =

@@ -3,7 +3,9 @@ use native.Mathlib.Omega.{arith}
 use mathlib.Core.List.{_++_, append-assoc}
 use denote.Ref.{now}
 use Rattle.listing.specs.Listing.{field, line, space, newline}
-use Rattle.codec.proofs.Laws.Splice.{Put, put-then, put-as}
+use Rattle.listing.specs.Calls.{lineRoom}
+use Rattle.codec.specs.Splice.{Puts}
+use Rattle.codec.proofs.Laws.Splice.{puts-then, puts-as}
 use borrow.Author.Needs.{needs}
 use Rattle.listing.proofs.lines.put_line.Statement.{statement}
 use Rattle.listing.proofs.lines.put_line.Tie as tie
@@ -53,17 +55,17 @@ returns c =
     let size = field (r .size) space in
     let off = field (r .off) space in
     let len = field (r .len) newline in
-    let p₁ : Put (now (a .out)) (a .at) pos _ _ = record { ends = w₁ .put-field .ensures .0; holds = w₁ .put-field .ensures .2 } in
-    let p₂ : Put _ _ id _ _ = record { ends = w₂ .put-field2 .ensures .0; holds = w₂ .put-field2 .ensures .2 } in
-    let p₃ : Put _ _ size _ _ = record { ends = w₃ .put-field3 .ensures .0; holds = w₃ .put-field3 .ensures .2 } in
-    let p₄ : Put _ _ off _ _ = record { ends = w₄ .put-field4 .ensures .0; holds = w₄ .put-field4 .ensures .2 } in
-    let p₅ : Put _ _ len _ _ = record { ends = w₅ .put-field5 .ensures .0; holds = w₅ .put-field5 .ensures .2 } in
-    let q₂ = put-then pos id p₁ p₂ (omega arith) in
-    let q₃ = put-then (pos ++ id) size q₂ p₃ (omega arith) in
-    let q₄ = put-then ((pos ++ id) ++ size) off q₃ p₄ (omega arith) in
-    let q₅ = put-then (((pos ++ id) ++ size) ++ off) len q₄ p₅ (omega arith) in
-    let q = put-as ((((pos ++ id) ++ size) ++ off) ++ len) (pos ++ (id ++ (size ++ (off ++ len)))) (simp append-assoc) q₅ in
-    (q .ends, omega arith, q .holds)
+    let p₁ : Puts (now (a .out)) (a .at) pos 21 _ _ = record { leaves = w₁ .put-field .ensures .2; ends = w₁ .put-field .ensures .0; fits = omega arith } in
+    let p₂ : Puts _ _ id 21 _ _ = record { leaves = w₂ .put-field2 .ensures .2; ends = w₂ .put-field2 .ensures .0; fits = omega arith } in
+    let p₃ : Puts _ _ size 21 _ _ = record { leaves = w₃ .put-field3 .ensures .2; ends = w₃ .put-field3 .ensures .0; fits = omega arith } in
+    let p₄ : Puts _ _ off 21 _ _ = record { leaves = w₄ .put-field4 .ensures .2; ends = w₄ .put-field4 .ensures .0; fits = omega arith } in
+    let p₅ : Puts _ _ len 21 _ _ = record { leaves = w₅ .put-field5 .ensures .2; ends = w₅ .put-field5 .ensures .0; fits = omega arith } in
+    let q₂ = puts-then p₁ p₂ (omega arith) in
+    let q₃ = puts-then q₂ p₃ (omega arith) in
+    let q₄ = puts-then q₃ p₄ (omega arith) in
+    let q₅ = puts-then q₄ p₅ (omega arith) in
+    let q : Puts _ _ (pos ++ (id ++ (size ++ (off ++ len)))) lineRoom _ _ = puts-as _ q₅ (simp append-assoc) (omega arith) in
+    (q .ends, omega arith, q .leaves)
 
 pub put-line-spec : {M : Type 1} → statement M
 put-line-spec =

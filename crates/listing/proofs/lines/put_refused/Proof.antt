@@ -3,10 +3,13 @@ use native.Mathlib.Omega.{arith}
 use native.Mathlib.Nat.{zero-add}
 use mathlib.Core.Path.{_∙_}
 use mathlib.Core.List.{_++_, append-assoc}
+use lib.ListN.{length}
 use denote.Ref.{now}
 use Rattle.codec.specs.Decimal.{decimal}
 use Rattle.listing.specs.Listing.{field, refusedLine, refusedWord, atWord, newline}
-use Rattle.codec.proofs.Laws.Splice.{Put, put-then, put-as}
+use Rattle.listing.specs.Calls.{lineRoom}
+use Rattle.codec.specs.Splice.{Puts}
+use Rattle.codec.proofs.Laws.Splice.{puts-then, puts-as}
 use borrow.Author.Needs.{needs}
 use Rattle.listing.proofs.lines.put_refused.Statement.{statement}
 use Rattle.listing.proofs.lines.put_refused.Tie as tie
@@ -45,15 +48,15 @@ returns c =
     let a = w₁ .before .before .before .before .args in
     let number = decimal (a .r .number) in
     let place = field (a .r .place) newline in
-    let p₁ : Put (now (a .out)) 0 refusedWord _ _ = record { ends = w₁ .put .ensures .0; holds = w₁ .put .ensures .1 } in
-    let p₂ : Put _ _ number _ _ = record { ends = w₂ .put-decimal .ensures .0; holds = w₂ .put-decimal .ensures .2 } in
-    let p₃ : Put _ _ atWord _ _ = record { ends = w₃ .put2 .ensures .0; holds = w₃ .put2 .ensures .1 } in
-    let p₄ : Put _ _ place _ _ = record { ends = w₄ .put-field .ensures .0; holds = w₄ .put-field .ensures .2 } in
-    let q₂ = put-then refusedWord number p₁ p₂ (omega arith) in
-    let q₃ = put-then (refusedWord ++ number) atWord q₂ p₃ (omega arith) in
-    let q₄ = put-then ((refusedWord ++ number) ++ atWord) place q₃ p₄ (omega arith) in
-    let q = put-as (((refusedWord ++ number) ++ atWord) ++ place) (refusedWord ++ (number ++ (atWord ++ place))) (simp append-assoc) q₄ in
-    (q .ends ∙ zero-add _, q .holds)
+    let p₁ : Puts (now (a .out)) 0 refusedWord (length refusedWord) _ _ = record { leaves = w₁ .put .ensures .1; ends = w₁ .put .ensures .0; fits = omega arith } in
+    let p₂ : Puts _ _ number 20 _ _ = record { leaves = w₂ .put-decimal .ensures .2; ends = w₂ .put-decimal .ensures .0; fits = omega arith } in
+    let p₃ : Puts _ _ atWord (length atWord) _ _ = record { leaves = w₃ .put2 .ensures .1; ends = w₃ .put2 .ensures .0; fits = omega arith } in
+    let p₄ : Puts _ _ place 21 _ _ = record { leaves = w₄ .put-field .ensures .2; ends = w₄ .put-field .ensures .0; fits = omega arith } in
+    let q₂ = puts-then p₁ p₂ (omega arith) in
+    let q₃ = puts-then q₂ p₃ (omega arith) in
+    let q₄ = puts-then q₃ p₄ (omega arith) in
+    let q : Puts _ _ (refusedWord ++ (number ++ (atWord ++ place))) lineRoom _ _ = puts-as _ q₄ (simp append-assoc) (omega arith) in
+    (q .ends ∙ zero-add _, q .leaves)
 
 pub put-refused-spec : {M : Type 1} → statement M
 put-refused-spec =

@@ -2,9 +2,11 @@
 use native.Mathlib.Omega.{arith}
 use native.Mathlib.Nat.{zero-add}
 use mathlib.Core.Path.{_∙_}
+use lib.ListN.{length}
 use denote.Ref.{now}
 use Rattle.slices.specs.Record.{records}
-use Rattle.codec.proofs.Laws.Splice.{Put, put-then}
+use Rattle.codec.specs.Splice.{Puts}
+use Rattle.codec.proofs.Laws.Splice.{puts-then}
 use Rattle.listing.specs.Listing.{header, lines}
 use borrow.Author.Needs.{needs}
 use Rattle.listing.proofs.lines.put_view.Statement.{statement}
@@ -27,10 +29,10 @@ returns c =
     let put = c .before .before in
     let top = put .before .before .before .before in
     let a = top .before .before .before .before .before .args in
-    let p : Put (now (a .out)) 0 header _ _ = record { ends = top .put .ensures .0; holds = top .put .ensures .1 } in
-    let q : Put _ _ (lines (records (now (a .view)))) _ _ = record { ends = put .put-lines .ensures .0; holds = put .put-lines .ensures .1 } in
-    let both = put-then header (lines (records (now (a .view)))) p q (omega arith) in
-    (both .ends ∙ zero-add _, both .holds)
+    let p : Puts (now (a .out)) 0 header (length header) _ _ = record { leaves = top .put .ensures .1; ends = top .put .ensures .0; fits = omega arith } in
+    let q : Puts _ _ (lines (records (now (a .view)))) (length (lines (records (now (a .view))))) _ _ = record { leaves = put .put-lines .ensures .1; ends = put .put-lines .ensures .0; fits = omega arith } in
+    let both = puts-then p q (omega arith) in
+    (both .ends ∙ zero-add _, both .leaves)
 
 pub put-view-spec : {M : Type 1} → statement M
 put-view-spec =

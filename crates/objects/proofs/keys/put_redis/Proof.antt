@@ -2,7 +2,7 @@
 use native.Mathlib.Omega.{arith}
 use mathlib.Core.List.{append-assoc}
 use Rattle.objects.specs.Keys.{redisKey}
-use Rattle.objects.proofs.Laws.Puts.{puts-then, puts-as}
+use Rattle.codec.proofs.Laws.Splice.{puts-then, puts-as}
 use borrow.Author.Needs.{needs}
 use Rattle.objects.proofs.keys.put_redis.Statement.{statement}
 use Rattle.objects.proofs.keys.put_redis.Tie as tie

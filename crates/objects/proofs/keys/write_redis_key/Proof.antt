@@ -4,7 +4,7 @@ use lib.ListN.{length-take}
 use denote.Ref.{now}
 use Rattle.objects.specs.Keys.{chunkAllowed, redisKey}
 use Rattle.objects.proofs.Laws.Keys.{chunk-allowed, chunk-large}
-use Rattle.objects.proofs.Laws.Puts.{puts-front}
+use Rattle.codec.proofs.Laws.Splice.{puts-front}
 use Rattle.objects.proofs.Laws.Written.{answers-not, answers-line}
 use borrow.Author.Needs.{needs}
 use Rattle.objects.proofs.keys.write_redis_key.Statement.{statement}

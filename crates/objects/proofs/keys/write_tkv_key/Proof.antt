@@ -4,7 +4,7 @@ use mathlib.Core.Path.{sym, _∙_}
 use denote.Ref.{now}
 use Rattle.objects.specs.Keys.{chunkAllowed, tkvKey}
 use Rattle.objects.proofs.Laws.Keys.{chunk-allowed, chunk-large}
-use Rattle.objects.proofs.Laws.Puts.{splice-whole}
+use Rattle.codec.proofs.Laws.Splice.{splice-whole}
 use Rattle.objects.proofs.Laws.Tkv.{length-tkvKey}
 use Rattle.objects.proofs.Laws.Written.{answers-not, answers-line}
 use borrow.Author.Needs.{needs}

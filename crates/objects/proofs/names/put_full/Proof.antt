@@ -3,7 +3,7 @@ use native.Mathlib.Omega.{arith}
 use mathlib.Core.List.{append-assoc}
 use denote.Ref.{now}
 use Rattle.objects.specs.Names.{fullName}
-use Rattle.objects.proofs.Laws.Puts.{puts-then, puts-as}
+use Rattle.codec.proofs.Laws.Splice.{puts-then, puts-as}
 use borrow.Author.Needs.{needs}
 use Rattle.objects.proofs.names.put_full.Statement.{statement}
 use Rattle.objects.proofs.names.put_full.Tie as tie

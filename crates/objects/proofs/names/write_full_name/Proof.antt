@@ -9,7 +9,7 @@ use denote.Ref.{now}
 use Rattle.objects.specs.Limits.{maxVolume}
 use Rattle.objects.specs.Volume.{volumeAllowed}
 use Rattle.objects.specs.Names.{objectAllowed, fullAllowed, fullName}
-use Rattle.objects.proofs.Laws.Puts.{puts-front}
+use Rattle.codec.proofs.Laws.Splice.{puts-front}
 use Rattle.objects.proofs.Laws.Volume.{right}
 use Rattle.objects.proofs.Laws.Written.{answers-not, answers-line}
 use borrow.Author.Needs.{needs}

@@ -4,7 +4,7 @@ use mathlib.Core.Path.{sym, _∙_}
 use lib.ListN.{length-take}
 use denote.Ref.{now}
 use Rattle.objects.specs.Names.{objectAllowed, objectName}
-use Rattle.objects.proofs.Laws.Puts.{puts-front}
+use Rattle.codec.proofs.Laws.Splice.{puts-front}
 use Rattle.objects.proofs.Laws.Written.{answers-not, answers-line}
 use borrow.Author.Needs.{needs}
 use Rattle.objects.proofs.names.write_object_name.Statement.{statement}

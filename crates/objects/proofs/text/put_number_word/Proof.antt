@@ -1,6 +1,6 @@
 -- `objects::text::put_number_word` meets its contract: a number, and the word behind it. Assumes nothing.
 use native.Mathlib.Omega.{arith}
-use Rattle.objects.proofs.Laws.Puts.{puts-then}
+use Rattle.codec.proofs.Laws.Splice.{puts-then}
 use borrow.Author.Needs.{needs}
 use Rattle.objects.proofs.text.put_number_word.Statement.{statement}
 use Rattle.objects.proofs.text.put_number_word.Tie as tie
