@@ -6,12 +6,12 @@ use mathlib.Core.List.{List, [], _∷_}
 use lib.ListN.{length, replicate}
 use Rattle.slices.specs.Limits.{recordSize}
 use Rattle.slices.specs.Record.{encodeAll}
-use Rattle.slices.specs.Numbers as number
-use Rattle.slices.specs.Outcome.{Outcome, refused, done, refusal}
+use Rattle.outcomes.specs.Numbers as number
+use Rattle.outcomes.specs.Outcome.{Outcome, refused, done, refusal}
 use Rattle.slices.specs.Refusals.{checkOutcome}
 use Rattle.views.specs.Calls.{viewOutcome}
-use Rattle.objects.specs.Keys.{Chunk, chunk, readRedis}
-use Rattle.objects.specs.Names.{writeObject}
+use Rattle.keys.specs.Keys.{Chunk, chunk, readRedis}
+use Rattle.names.specs.Names.{writeObject}
 use Rattle.slices.specs.declared.Record.{Record}
 
 -- a case, with what it gives

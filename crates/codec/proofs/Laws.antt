@@ -1,4 +1,5 @@
 -- Laws of the definitions of specs/.
+pub mod All
 pub mod Splice
 pub mod Fixed
 pub mod Groups

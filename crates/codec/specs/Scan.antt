@@ -1,10 +1,12 @@
 -- Reading a decimal number in a text, from a place on. proofs/Laws/Scan.antt shows that what is read is exactly what `decimal` writes,
 -- within the bounds. Assumes nothing.
-use Prim.Native.Nat.{ℕ, suc, _+_, _*_, min}
+use Prim.Native.Nat.{ℕ, suc, _+_, _*_, _≤_, min}
+use mathlib.Core.Path.{_≡_}
 use mathlib.Core.Bool.{cond, _&&_}
-use mathlib.Core.List.{List, [], _∷_}
+use mathlib.Core.List.{List, [], _∷_, _++_}
 use lib.Dec.{ltb, leb}
-use Rattle.codec.specs.Decimal.{digitOf}
+use lib.ListN.{drop}
+use Rattle.codec.specs.Decimal.{decimal, digitOf}
 use Rattle.codec.specs.declared.scan.Step.{Step}
 use Rattle.codec.specs.declared.scan.Step.the-variants.{Next, Stop}
 
@@ -30,3 +32,9 @@ decimalAt least most i [] = Stop i
 decimalAt least most i (b ∷ rest) =
     let further = moreDigits least most (digitOf b) (suc i) rest in
     cond (ltb (digitOf b) 10 && (leb (min 1 least) (digitOf b) && leb (digitOf b) most)) further (Stop i)
+
+pub record DecimalRead (least most i : ℕ) (text : List ℕ) (j n : ℕ) : Type 0 where
+  pub same : drop i text ≡ decimal n ++ drop j text
+  pub above : least ≤ n
+  pub within : n ≤ most
+  pub after : 10 ≤ digitAt (drop j text)

@@ -1,22 +1,10 @@
 -- Laws of the definitions of specs/.
-pub mod Parts
 pub mod Span
 pub mod Scan
 pub mod Covered
 pub mod Ends
 pub mod Told
-pub mod Store
-pub mod Copy
-pub mod Fresh
-pub mod Held
-pub mod NewSlice
-pub mod Reads
 pub mod NewList
-pub mod Firsts
-pub mod Compaction
-pub mod Answered
-pub mod Allowed
-pub mod ThirdDemand
 pub mod Calls
 pub mod Again
 pub mod Delivery

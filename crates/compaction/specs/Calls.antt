@@ -1,14 +1,13 @@
 -- What the call `compact` is to do: its refusals, in the order of paper 01, its two answers and its two buffers. Assumes nothing.
 use Prim.Native.Nat.{ℕ}
-use mathlib.Core.Path.{_≡_}
-use mathlib.Core.Bool.{Bool, false, _||_}
+use mathlib.Core.Bool.{Bool, _||_}
 use mathlib.Core.List.{List, [], _∷_, _++_}
 use lib.Dec.{ltb, eqb}
 use lib.ListN.{length}
-use Rattle.codec.specs.Splice.{splice}
 use Rattle.slices.specs.Record.{records}
-use Rattle.slices.specs.Numbers as number
-use Rattle.slices.specs.Outcome.{Outcome, refused, done, Row, row, firstOf}
+use Rattle.outcomes.specs.Numbers as number
+use Rattle.outcomes.specs.Outcome.{Outcome, done, Row, row, firstOf, tooShort}
+use Rattle.outcomes.specs.Answers.{answerOf, lent, Replies}
 use Rattle.slices.specs.Refusals.{listRows}
 use Rattle.blocks.specs.Blocks.{blockSizeBad}
 use Rattle.compaction.specs.Compaction.{planBytes, newListBytes}
@@ -22,32 +21,27 @@ use Rattle.compaction.specs.declared.Compacted.the-variants.{Wrote, Refu
 unfoldable pub tooFew : List Record → ℕ → Bool
 tooFew rs k = ltb (length rs) k
 
--- the id stands in a record of the list, also in an empty one
-unfoldable pub stands : ℕ → List Record → Bool
-stands id [] = false
-stands id (r ∷ rs) = eqb (r .id) id || stands id rs
-
 -- 9: new id is 0 or stands in any record of the list, empty ones included
 unfoldable pub idInUse : ℕ → List Record → Bool
 idInUse id rs = eqb id 0 || stands id rs
 
 -- ---- the two answers
 
-pub record Written : Type 0 where
+pub record Both : Type 0 where
   pub plan : List ℕ
   pub list : List ℕ
 
 -- of the compaction of the first k of the records rs
-unfoldable pub written : ℕ → List Record → ℕ → ℕ → Written
-written B rs k id = record { plan = planBytes B rs k; list = newListBytes rs k id }
+unfoldable pub both : ℕ → List Record → ℕ → ℕ → Both
+both B rs k id = record { plan = planBytes B rs k; list = newListBytes rs k id }
 
 -- 12: an output buffer shorter than its answer, either of the two
-unfoldable pub eitherShort : Written → ℕ → ℕ → Bool
-eitherShort w planRoom listRoom = ltb planRoom (length (w .plan)) || ltb listRoom (length (w .list))
+abbrev pub roomRows : Both → (planRoom listRoom : ℕ) → List Row
+roomRows b planRoom listRoom = tooShort (b .plan) planRoom ∷ tooShort (b .list) listRoom ∷ []
 
 -- both, delivered into buffers of these lengths
-abbrev pub delivered : Written → ℕ → ℕ → Outcome Written
-delivered w planRoom listRoom = firstOf (row (eitherShort w planRoom listRoom) number.shortBuffer 0 ∷ []) (done w)
+abbrev pub delivered : Both → (planRoom listRoom : ℕ) → Outcome Both
+delivered b planRoom listRoom = firstOf (roomRows b planRoom listRoom) (done b)
 
 -- ---- the call
 
@@ -56,30 +50,24 @@ unfoldable pub laterRows : List Record → (B k id planRoom listRoom : ℕ) → 
 laterRows rs B k id planRoom listRoom =
     row (tooFew rs k) number.tooFew 0
     ∷ row (idInUse id rs) number.idInUse 0
-    ∷ row (eitherShort (written B rs k id) planRoom listRoom) number.shortBuffer 0
-    ∷ []
+    ∷ roomRows (both B rs k id) planRoom listRoom
 
 -- 8, 1, 2, 3 to 6, and these
 unfoldable pub compactRows : List ℕ → (B k id planRoom listRoom : ℕ) → List Row
 compactRows bs B k id planRoom listRoom = row (blockSizeBad B) number.blockSize 0 ∷ (listRows bs ++ laterRows (records bs) B k id planRoom listRoom)
 
-unfoldable pub compactOutcome : List ℕ → (B k id planRoom listRoom : ℕ) → Outcome Written
-compactOutcome bs B k id planRoom listRoom = firstOf (compactRows bs B k id planRoom listRoom) (done (written B (records bs) k id))
+unfoldable pub compactOutcome : List ℕ → (B k id planRoom listRoom : ℕ) → Outcome Both
+compactOutcome bs B k id planRoom listRoom = firstOf (compactRows bs B k id planRoom listRoom) (done (both B (records bs) k id))
 
 -- ---- what it returns and leaves
 
--- the answer: the refusal, or how many bytes of each answer it wrote
-unfoldable pub answer : Outcome Written → Compacted
-answer (refused r) = Refused r
-answer (done w) = Wrote (length (w .plan)) (length (w .list))
+-- it says how many bytes of each answer it wrote
+abbrev pub howManyOfEach : Both → Compacted
+howManyOfEach b = Wrote (length (b .plan)) (length (b .list))
 
--- a lent buffer afterwards: unchanged on a refusal; else its answer, and then the rest of the buffer as it was
-unfoldable pub buffer : (Written → List ℕ) → Outcome Written → List ℕ → List ℕ
-buffer part (refused r) out = out
-buffer part (done w) out = splice out 0 (part w)
+abbrev pub answer : Outcome Both → Compacted
+answer o = answerOf Refused howManyOfEach o
 
 -- a call with the outcome o, lent the buffers `plan` and `list`, answers a and leaves `plan'` and `list'`
-pub record Compacts (o : Outcome Written) (plan list : List ℕ) (a : Compacted) (plan' list' : List ℕ) : Type 0 where
-  pub answers : a ≡ answer o
-  pub leaves-plan : plan' ≡ buffer (λ (w : Written). w .plan) o plan
-  pub leaves-list : list' ≡ buffer (λ (w : Written). w .list) o list
+abbrev pub Compacts : Outcome Both → (plan list : List ℕ) → Compacted → (plan' list' : List ℕ) → Type 0
+Compacts o plan list a plan' list' = Replies Refused howManyOfEach o (lent (λ (b : Both). b .plan) plan plan' ∷ lent (λ (b : Both). b .list) list list' ∷ []) a

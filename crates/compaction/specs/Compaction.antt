@@ -6,11 +6,12 @@ use mathlib.Core.List.{List, [], _∷_, _++_}
 use lib.ListN.{take, drop}
 use Rattle.slices.specs.Limits.{chunk}
 use Rattle.slices.specs.Record.{encodeAll}
+use Rattle.runs.specs.Runs.{Run}
 use Rattle.plans.specs.Piece.{encodePieces}
 use Rattle.plans.specs.Plan.{readPlan}
 use Rattle.compaction.specs.Span.{firstCovered, lastCovered, coversNothing}
 use Rattle.slices.specs.declared.Record.{Record}
-use Rattle.plans.specs.declared.Piece.{Piece}
+use Rattle.plans.specs.declared.Location.{Location}
 
 -- q - p + 1
 unfoldable pub extent : List Record → ℕ
@@ -19,11 +20,11 @@ extent xs = lastCovered xs - firstCovered xs + 1
 -- ---- the plan
 
 -- of all records of a list: empty if they cover nothing; otherwise the read plan of p to q over them at full chunk length
-unfoldable pub planOf : ℕ → List Record → List Piece
+unfoldable pub planOf : ℕ → List Record → List (Run Location)
 planOf B xs = cond (coversNothing xs) [] (readPlan B xs chunk (firstCovered xs) (extent xs))
 
 -- of the first k records
-unfoldable pub compactionPlan : ℕ → List Record → ℕ → List Piece
+unfoldable pub compactionPlan : ℕ → List Record → ℕ → List (Run Location)
 compactionPlan B rs k = planOf B (take k rs)
 
 -- ---- the new list

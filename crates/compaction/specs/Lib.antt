@@ -1,6 +1,4 @@
 pub mod Span
 pub mod Compaction
-pub mod Copy
 pub mod Calls
-pub mod ThirdDemand
-pub mod Steps
+pub mod Inner

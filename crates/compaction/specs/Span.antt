@@ -1,21 +1,36 @@
 -- The first and the last position of the chunk that a list covers. No limit on the length of a list. Assumes nothing.
-use Prim.Native.Nat.{ℕ, zero, suc}
-use mathlib.Core.Bool.{Bool, cond, not}
+use Prim.Native.Nat.{ℕ, zero, suc, _<_}
+use mathlib.Core.Path.{_≡_}
+use mathlib.Core.Bool.{Bool, true, false, cond, not, _||_}
 use mathlib.Core.List.{List}
-use lib.Dec.{eqb}
 use Rattle.slices.specs.Limits.{chunk}
-use Rattle.slices.specs.Cover.{cover}
-use Rattle.views.specs.View.{isNothing}
+use Rattle.slices.specs.Cover.{cover, isNothing}
 use Rattle.slices.specs.declared.Record.{Record}
 
--- ---- of any test
+-- ---- of the positions below n, by any test
 
--- the first of the n positions from `at` that passes a test; at + n where none does
-unfoldable pub first : (ℕ → Bool) → ℕ → ℕ → ℕ
-first t at zero = at
-first t at (suc n) = cond (t at) at (first t (suc at) n)
+-- m is the first that passes
+pub record IsFirst (t : ℕ → Bool) (n m : ℕ) : Type 0 where
+  pub inside : m < n
+  pub here : t m ≡ true
+  pub before : (p : ℕ) → p < m → t p ≡ false
 
--- the last position below n that passes a test; 0 where none does
+-- m is the last that passes
+pub record IsLast (t : ℕ → Bool) (n m : ℕ) : Type 0 where
+  pub inside : m < n
+  pub here : t m ≡ true
+  pub beyond : (p : ℕ) → m < p → p < n → t p ≡ false
+
+-- whether one passes
+unfoldable pub anyBelow : (ℕ → Bool) → ℕ → Bool
+anyBelow t zero = false
+anyBelow t (suc n) = t n || anyBelow t n
+
+-- the first and the last that pass, where one does: proofs/Laws/Span.antt shows that they are
+unfoldable pub first : (ℕ → Bool) → ℕ → ℕ
+first t zero = zero
+first t (suc n) = cond (anyBelow t n) (first t n) n
+
 unfoldable pub last : (ℕ → Bool) → ℕ → ℕ
 last t zero = zero
 last t (suc n) = cond (t n) n (last t n)
@@ -26,14 +41,14 @@ last t (suc n) = cond (t n) n (last t n)
 unfoldable pub isCovered : List Record → ℕ → Bool
 isCovered rs p = not (isNothing (cover rs p))
 
--- p, the first covered position of the chunk; 64 MiB where none is covered
-unfoldable pub firstCovered : List Record → ℕ
-firstCovered rs = first (isCovered rs) 0 chunk
+-- the records cover nothing: no position of the chunk
+unfoldable pub coversNothing : List Record → Bool
+coversNothing rs = not (anyBelow (isCovered rs) chunk)
 
--- q, the last covered position of the chunk
+-- p, the first covered position of the chunk, of records that cover something
+unfoldable pub firstCovered : List Record → ℕ
+firstCovered rs = first (isCovered rs) chunk
+
+-- q, the last one
 unfoldable pub lastCovered : List Record → ℕ
 lastCovered rs = last (isCovered rs) chunk
-
--- the records cover nothing
-unfoldable pub coversNothing : List Record → Bool
-coversNothing rs = eqb (firstCovered rs) chunk

@@ -12,7 +12,7 @@ ghost use Rattle.codec.specs.All.{All};
 ghost use Rattle.slices.specs.Limits.{recordSize};
 ghost use Rattle.slices.specs.Passes.{Passes};
 ghost use Rattle.slices.specs.Record.{recordAt, records};
-ghost use Rattle.compaction.specs.Steps.{lowest, highest, Ends};
+ghost use Rattle.compaction.specs.Inner.{lowest, highest, Ends};
 
 // The lower of a position and record i's first, if the record covers one.
 fn lower(list: &[u8], i: usize, low: u32) -> u32

@@ -8,18 +8,15 @@ use plans::PIECE;
 use plans::walk;
 use slices::Checked;
 use slices::RECORD;
-use slices::Refusal;
+use outcomes::Refusal;
 use slices::check;
-use slices::refusals;
-ghost use mathlib.Core.Path.{_≡_};
-ghost use Prim.Native.Nat.{_%_, _<_, _≤_};
+use outcomes::refusals;
+ghost use Prim.Native.Nat.{_<_, _≤_};
 ghost use lib.ListN.{length};
-ghost use Rattle.codec.specs.All.{All};
-ghost use Rattle.slices.specs.Limits.{recordSize, maxRecords};
-ghost use Rattle.slices.specs.Outcome.{done, firstOf};
-ghost use Rattle.slices.specs.Passes.{Passes};
+ghost use Rattle.outcomes.specs.Outcome.{done, firstOf};
+ghost use Rattle.slices.specs.Accepts.{Accepts};
 ghost use Rattle.slices.specs.Record.{count, records};
-ghost use Rattle.compaction.specs.Calls.{written, delivered, laterRows, compactOutcome, Compacts};
+ghost use Rattle.compaction.specs.Calls.{both, delivered, laterRows, compactOutcome, Compacts};
 
 // What the call answers: the numbers of bytes of the plan and of the new list, or the refusal.
 pub enum Compacted {
@@ -42,10 +39,10 @@ fn compact_first(
     plan: &mut [u8],
     new_list: &mut [u8],
 ) -> Compacted
-    requires { ⌜ (length (now list) % recordSize ≡ 0) × (count (now list) ≤ maxRecords) × All Passes (records (now list)) ⌝ }
+    requires { ⌜ Accepts (now list) ⌝ }
     requires { ⌜ 0 < block ⌝ }
     requires { ⌜ k ≤ count (now list) ⌝ }
-    ensures { λ r. ⌜ Compacts (delivered (written block (records (now (list .entry))) k «new_id») (length (now (plan .entry))) (length (now («new_list» .entry)))) (now (plan .entry)) (now («new_list» .entry)) r (now (plan .exit)) (now («new_list» .exit)) ⌝ }
+    ensures { λ r. ⌜ Compacts (delivered (both block (records (now (list .entry))) k «new_id») (length (now (plan .entry))) (length (now («new_list» .entry)))) (now (plan .entry)) (now («new_list» .entry)) r (now (plan .exit)) (now («new_list» .exit)) ⌝ }
 {
     let cut = k * RECORD;
     let firsts = &list[..cut];
@@ -77,9 +74,9 @@ fn compact_accepted(
     plan: &mut [u8],
     new_list: &mut [u8],
 ) -> Compacted
-    requires { ⌜ (length (now list) % recordSize ≡ 0) × (count (now list) ≤ maxRecords) × All Passes (records (now list)) ⌝ }
+    requires { ⌜ Accepts (now list) ⌝ }
     requires { ⌜ 0 < block ⌝ }
-    ensures { λ r. ⌜ Compacts (firstOf (laterRows (records (now (list .entry))) block k «new_id» (length (now (plan .entry))) (length (now («new_list» .entry)))) (done (written block (records (now (list .entry))) k «new_id»))) (now (plan .entry)) (now («new_list» .entry)) r (now (plan .exit)) (now («new_list» .exit)) ⌝ }
+    ensures { λ r. ⌜ Compacts (firstOf (laterRows (records (now (list .entry))) block k «new_id» (length (now (plan .entry))) (length (now («new_list» .entry)))) (done (both block (records (now (list .entry))) k «new_id»))) (now (plan .entry)) (now («new_list» .entry)) r (now (plan .exit)) (now («new_list» .exit)) ⌝ }
 {
     if ((list.len() / RECORD) as u64) < k {
         return Compacted::Refused(refusals::refusal(refusals::TOO_FEW));

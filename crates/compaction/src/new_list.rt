@@ -9,7 +9,7 @@ ghost use mathlib.Core.List.{_++_};
 ghost use lib.ListN.{length, drop};
 ghost use Rattle.codec.specs.Splice.{splice};
 ghost use Rattle.slices.specs.Record.{encodeAll};
-ghost use Rattle.compaction.specs.Steps.{standFor};
+ghost use Rattle.compaction.specs.Inner.{standFor};
 
 // How many bytes the record takes that stands for the positions from `from` up to `end`.
 pub(crate) fn stand_in_bytes(from: u32, end: u32, id: u64) -> usize

@@ -2,9 +2,10 @@
 use Prim.Native.Nat.{ℕ}
 use mathlib.Core.List.{List}
 use lib.ListN.{length}
-use Rattle.slices.specs.Outcome.{Outcome, refused, done}
-use Rattle.compaction.specs.Calls.{Written, buffer}
-use Rattle.slices.specs.declared.Refusal.{Refusal}
+use Rattle.outcomes.specs.Outcome.{Outcome, refused, done}
+use Rattle.outcomes.specs.Answers.{leftIn}
+use Rattle.compaction.specs.Calls.{Both}
+use Rattle.outcomes.specs.declared.Refusal.{Refusal}
 use Rattle.compaction.specs.declared.Compacted.{Compacted}
 use Rattle.compaction.specs.declared.Compacted.the-variants as compacted
 use Rattle.ezumokarin.specs.declared.Compact.{Compact}
@@ -17,16 +18,16 @@ abbrev pub twoCounts : ℕ → ℕ → Compact
 twoCounts plan list = record { refusal = 0; place = 0; plan = plan; list = list }
 
 -- both answers that were written
-unfoldable pub wroteBoth : Outcome Written → Compact
+unfoldable pub wroteBoth : Outcome Both → Compact
 wroteBoth (refused r) = noCounts r
 wroteBoth (done w) = twoCounts (length (w .plan)) (length (w .list))
 
 -- the two buffers afterwards
-abbrev pub planBuffer : Outcome Written → List ℕ → List ℕ
-planBuffer o out = buffer (λ (w : Written). w .plan) o out
+abbrev pub planBuffer : Outcome Both → List ℕ → List ℕ
+planBuffer o out = leftIn (λ (b : Both). b .plan) o out
 
-abbrev pub listBuffer : Outcome Written → List ℕ → List ℕ
-listBuffer o out = buffer (λ (w : Written). w .list) o out
+abbrev pub listBuffer : Outcome Both → List ℕ → List ℕ
+listBuffer o out = leftIn (λ (b : Both). b .list) o out
 
 -- ---- the same of the call's own answer
 

@@ -1,14 +1,14 @@
 -- What the readers of names and keys answer, as structs of numbers: refusal 0 on success; a field without meaning is 0. Assumes nothing.
 use Prim.Native.Nat.{ℕ}
 use lib.ListN.{length}
-use Rattle.slices.specs.Outcome.{Outcome, refused, done}
-use Rattle.objects.specs.Keys.{Chunk as ChunkOf}
-use Rattle.objects.specs.Names.{Object as ObjectOf, Full}
-use Rattle.slices.specs.declared.Refusal.{Refusal}
-use Rattle.objects.specs.declared.ObjectName.{ObjectName}
-use Rattle.objects.specs.declared.ObjectName.the-variants as name
-use Rattle.objects.specs.declared.ChunkKey.{ChunkKey}
-use Rattle.objects.specs.declared.ChunkKey.the-variants as key
+use Rattle.outcomes.specs.Outcome.{Outcome, refused, done}
+use Rattle.keys.specs.Keys.{Chunk as ChunkOf}
+use Rattle.names.specs.Names.{Object as ObjectOf, Full}
+use Rattle.outcomes.specs.declared.Refusal.{Refusal}
+use Rattle.names.specs.declared.ObjectName.{ObjectName}
+use Rattle.names.specs.declared.ObjectName.the-variants as name
+use Rattle.keys.specs.declared.ChunkKey.{ChunkKey}
+use Rattle.keys.specs.declared.ChunkKey.the-variants as key
 use Rattle.ezumokarin.specs.declared.Object.{Object}
 use Rattle.ezumokarin.specs.declared.Chunk.{Chunk}
 

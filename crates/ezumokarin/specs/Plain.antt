@@ -2,12 +2,12 @@
 use Prim.Native.Nat.{ℕ}
 use mathlib.Core.List.{List}
 use lib.ListN.{length}
-use Rattle.slices.specs.Outcome.{Outcome, refused, done}
-use Rattle.slices.specs.declared.Refusal.{Refusal}
+use Rattle.outcomes.specs.Outcome.{Outcome, refused, done}
+use Rattle.outcomes.specs.declared.Refusal.{Refusal}
 use Rattle.slices.specs.declared.Checked.{Checked}
 use Rattle.slices.specs.declared.Checked.the-variants as checked
-use Rattle.slices.specs.declared.Answer.{Answer}
-use Rattle.slices.specs.declared.Answer.the-variants as answer
+use Rattle.outcomes.specs.declared.Answer.{Answer}
+use Rattle.outcomes.specs.declared.Answer.the-variants as answer
 use Rattle.ezumokarin.specs.declared.Plain.{Plain}
 
 -- success, with its count

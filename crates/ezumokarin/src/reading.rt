@@ -3,7 +3,7 @@ use crate::Plain;
 use crate::answers;
 ghost use mathlib.Core.Path.{_≡_};
 ghost use lib.ListN.{length};
-ghost use Rattle.slices.specs.Outcome.{buffer};
+ghost use Rattle.outcomes.specs.Answers.{buffer};
 ghost use Rattle.plans.specs.Calls.{readOutcome};
 ghost use Rattle.ezumokarin.specs.Plain.{wrote};
 

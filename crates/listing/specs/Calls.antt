@@ -4,8 +4,8 @@ use mathlib.Core.Bool.{Bool}
 use mathlib.Core.List.{List, [], _∷_}
 use lib.Dec.{ltb}
 use lib.ListN.{length}
-use Rattle.slices.specs.Numbers.{shortBuffer}
-use Rattle.slices.specs.Outcome.{Outcome, done, row, firstOf}
+use Rattle.outcomes.specs.Numbers.{shortBuffer}
+use Rattle.outcomes.specs.Outcome.{Outcome, done, row, firstOf}
 use Rattle.codec.specs.Decimal.{maxDigits}
 use Rattle.slices.specs.Limits.{recordSize}
 use Rattle.listing.specs.Listing.{fileLimit, header, listing}

@@ -5,11 +5,11 @@ use mathlib.Core.List.{List, [], _∷_, _++_, flatMap}
 use Rattle.codec.specs.Decimal.{decimal}
 use Rattle.slices.specs.Limits.{chunk}
 use Rattle.slices.specs.Record.{records}
-use Rattle.slices.specs.Numbers.{tooMany}
-use Rattle.slices.specs.Outcome.{Outcome, refused, done, refusal}
+use Rattle.outcomes.specs.Numbers.{tooMany}
+use Rattle.outcomes.specs.Outcome.{Outcome, refused, done, refusal}
 use Rattle.views.specs.Calls.{viewOutcome}
 use Rattle.slices.specs.declared.Record.{Record}
-use Rattle.slices.specs.declared.Refusal.{Refusal}
+use Rattle.outcomes.specs.declared.Refusal.{Refusal}
 
 -- the most bytes of a file, and of the view's buffer
 abbrev pub fileLimit : ℕ

@@ -2,12 +2,12 @@
 mod lines;
 
 use codec::decimal::DIGITS;
-use slices::Answer;
+use outcomes::Answer;
 use slices::CHUNK;
 use slices::RECORD;
-use slices::refusals;
+use outcomes::refusals;
 ghost use lib.ListN.{length};
-ghost use Rattle.slices.specs.Outcome.{Answers};
+ghost use Rattle.outcomes.specs.Answers.{Answers};
 ghost use mathlib.Core.Path.{_≡_};
 ghost use Rattle.listing.specs.Listing.{fileLimit};
 ghost use Rattle.listing.specs.Calls.{textOutcome};

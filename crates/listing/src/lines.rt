@@ -3,7 +3,7 @@ use codec::decimal;
 use codec::put;
 use slices::RECORD;
 use slices::Record;
-use slices::Refusal;
+use outcomes::Refusal;
 use slices::records;
 ghost use mathlib.Core.Path.{_≡_};
 ghost use mathlib.Core.List.{_++_};

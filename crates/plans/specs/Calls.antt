@@ -2,10 +2,10 @@
 use Prim.Native.Nat.{ℕ}
 use mathlib.Core.List.{List, [], _∷_, _++_}
 use Rattle.slices.specs.Record.{records}
-use Rattle.slices.specs.Numbers as number
-use Rattle.slices.specs.Outcome.{Outcome, done, Row, row, firstOf, tooShort}
+use Rattle.outcomes.specs.Numbers as number
+use Rattle.outcomes.specs.Outcome.{Outcome, done, Row, row, firstOf, tooShort}
 use Rattle.slices.specs.Refusals.{listRows}
-use Rattle.views.specs.Calls.{chunkTooLong}
+use Rattle.slices.specs.Refusals.{chunkTooLong}
 use Rattle.blocks.specs.Blocks.{blockSizeBad}
 use Rattle.plans.specs.Piece.{encodePieces}
 use Rattle.plans.specs.Plan.{readPlan}

@@ -1,6 +1,6 @@
-pub mod Place
-pub mod Piece
+pub mod Location
 pub mod Plan
+pub mod Piece
 pub mod Store
 pub mod Calls
-pub mod Steps
+pub mod Inner

@@ -1,26 +1,26 @@
 // Where the bytes of a read lie, in maximal pieces.
-pub mod pieces;
-pub mod places;
+mod locations;
+mod pieces;
 pub mod walk;
 
 use blocks::block_allowed;
-use slices::Answer;
+use outcomes::Answer;
 use slices::CHUNK;
 use slices::Checked;
 use slices::check;
-use slices::refusals;
+use outcomes::refusals;
 ghost use Prim.Native.Nat.{_≤_};
 ghost use lib.ListN.{length};
 ghost use Rattle.slices.specs.Limits.{chunk};
-ghost use Rattle.slices.specs.Outcome.{Answers};
+ghost use Rattle.outcomes.specs.Answers.{Answers};
 ghost use Rattle.plans.specs.Calls.{readOutcome};
-ghost use Rattle.plans.specs.Steps.{Cut};
+ghost use Rattle.plans.specs.Inner.{Cut};
 
 // The bytes of a piece.
 pub const PIECE: usize = 30;
 
-// Where a byte is read: as zero, or from an object at a place in its block.
-pub enum Place {
+// Where a byte lies in the store: nowhere, so that it reads as zero, or in an object at a place in its block.
+pub enum Location {
     Hole,
     In {
         id: u64,
@@ -30,9 +30,9 @@ pub enum Place {
     },
 }
 
-// A run of places: its first, and the position after its last.
-pub struct PlaceRun {
-    pub first: Place,
+// A run of locations: its first, and the position after its last.
+pub struct LocationRun {
+    pub first: Location,
     pub end: u32,
 }
 

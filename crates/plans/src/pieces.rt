@@ -1,6 +1,6 @@
 // A piece of a plan, and its bytes.
 use crate::Piece;
-use crate::Place;
+use crate::Location;
 use codec::fixed;
 ghost use mathlib.Core.Path.{_≡_};
 ghost use Prim.Native.Nat.{_+_, _≤_};
@@ -8,20 +8,20 @@ ghost use lib.ListN.{length};
 ghost use Rattle.codec.specs.Fixed.{bigEndian};
 ghost use Rattle.codec.specs.Splice.{splice};
 ghost use Rattle.plans.specs.Piece.{pieceSize, pieceOf, encodePiece};
-ghost use Rattle.plans.specs.Steps.{encodeObject};
+ghost use Rattle.plans.specs.Inner.{encodeObject};
 
 // `RB`, the mark of a piece that lies in an object.
-pub const OBJECT: u16 = 0x5242;
+const OBJECT: u16 = 0x5242;
 
 // `RZ`, the mark of a piece that reads as zeros.
-pub const ZEROS: u16 = 0x525a;
+const ZEROS: u16 = 0x525a;
 
 // The piece of `len` bytes at a place from the start of the read, by where its first byte is read.
-pub fn piece_of(place: u32, len: u32, first: Place) -> Piece
+pub(crate) fn piece_of(place: u32, len: u32, first: Location) -> Piece
     ensures { λ r. ⌜ r ≡ pieceOf place len first ⌝ }
 {
     match first {
-        Place::Hole => Piece {
+        Location::Hole => Piece {
             mark: ZEROS,
             place,
             id: 0,
@@ -30,7 +30,7 @@ pub fn piece_of(place: u32, len: u32, first: Place) -> Piece
             at: 0,
             len,
         },
-        Place::In {
+        Location::In {
             id,
             block,
             length,
@@ -68,7 +68,7 @@ fn write_object(out: &mut [u8], to: usize, p: Piece)
 }
 
 // Writes a piece's bytes from `to`.
-pub fn write_piece(out: &mut [u8], to: usize, p: Piece)
+pub(crate) fn write_piece(out: &mut [u8], to: usize, p: Piece)
     requires { ⌜ to + pieceSize ≤ length (now out) ⌝ }
     ensures { λ _. ⌜ now (out .exit) ≡ splice (now (out .entry)) to (encodePiece p) ⌝ }
 {

@@ -1,15 +1,16 @@
 // The pieces of a plan, from the first on: counted, and written.
 use crate::PIECE;
 use crate::pieces;
-use crate::places;
-use slices::Answer;
-use slices::refusals;
+use crate::locations;
+use outcomes::Answer;
+use outcomes::refusals;
 ghost use mathlib.Core.Path.{_≡_};
 ghost use Prim.Native.Nat.{_-_, _<_, _≤_};
 ghost use lib.ListN.{length};
 ghost use Rattle.codec.specs.All.{All};
 ghost use Rattle.codec.specs.Splice.{splice};
-ghost use Rattle.slices.specs.Outcome.{Answers, delivered};
+ghost use Rattle.outcomes.specs.Answers.{Answers};
+ghost use Rattle.outcomes.specs.Outcome.{delivered};
 ghost use Rattle.slices.specs.Passes.{Passes};
 ghost use Rattle.slices.specs.Record.{records};
 ghost use Rattle.plans.specs.Piece.{encodePieces};
@@ -25,7 +26,7 @@ pub fn count_pieces(list: &[u8], from: u32, end: u32, block: u32) -> usize
     let mut count = 0;
     let mut p = from;
     while p < end {
-        let run = places::piece_at(list, p, end, block);
+        let run = locations::piece_at(list, p, end, block);
         p = run.end;
         count += 1;
     }
@@ -43,7 +44,7 @@ pub fn write_pieces(list: &[u8], from: u32, end: u32, block: u32, out: &mut [u8]
     let mut p = from;
     let mut to = 0;
     while p < end {
-        let run = places::piece_at(list, p, end, block);
+        let run = locations::piece_at(list, p, end, block);
         let e = run.end;
         let first = run.first;
         pieces::write_piece(out, to, pieces::piece_of(p - from, e - p, first));
@@ -53,7 +54,7 @@ pub fn write_pieces(list: &[u8], from: u32, end: u32, block: u32, out: &mut [u8]
 }
 
 // Answers with these pieces.
-pub fn answer_pieces(list: &[u8], from: u32, end: u32, block: u32, out: &mut [u8]) -> Answer
+pub(crate) fn answer_pieces(list: &[u8], from: u32, end: u32, block: u32, out: &mut [u8]) -> Answer
     requires { ⌜ All Passes (records (now list)) ⌝ }
     requires { ⌜ from ≤ end ⌝ }
     requires { ⌜ 0 < block ⌝ }

@@ -1,6 +1,6 @@
 // Prints the view of the slice list in the file list.bin, or why there is none.
 use libc::STDOUT_FILENO;
-use slices::Answer;
+use outcomes::Answer;
 ghost use lib.ListN.{length};
 ghost use mathlib.Core.Path.{_≡_};
 ghost use Rattle.listing.specs.Calls.{textRoom};

@@ -1,7 +1,9 @@
 -- Laws of the definitions of specs/.
-pub mod Outcome
 pub mod Cover
 pub mod Record
+pub mod Firsts
+pub mod Left
 pub mod Refusals
 pub mod Scan
+pub mod Sources
 pub mod Tags

@@ -1,9 +1,11 @@
 -- The cover of a list of slice records: where each byte of the chunk comes from (paper 01, "A record and its meaning").
 -- No limit on the length of a list. Assumes nothing.
-use Prim.Native.Nat.{ℕ, _+_, _-_}
-use mathlib.Core.Bool.{Bool, _&&_, cond}
+use Prim.Native.Nat.{ℕ, _+_, _-_, _<_}
+use mathlib.Core.Path.{_≡_}
+use mathlib.Core.Bool.{Bool, true, false, _&&_, cond}
 use mathlib.Core.List.{List, [], _∷_}
 use lib.Dec.{leb, ltb, eqb}
+use Rattle.slices.specs.Limits.{chunk}
 use Rattle.slices.specs.declared.Record.{Record}
 use Rattle.slices.specs.declared.Source.{Source}
 use Rattle.slices.specs.declared.Source.the-variants.{Nothing, Zero, Byte}
@@ -32,3 +34,13 @@ unfoldable pub cover : List Record → ℕ → Source
 unfolding over layer
 cover [] p = Nothing
 cover (r ∷ rs) p = over (cover rs p) (layer r p)
+
+-- whether a source is nothing
+unfoldable pub isNothing : Source → Bool
+isNothing Nothing = true
+isNothing Zero = false
+isNothing (Byte i s o) = false
+
+-- "Two covers are the same when they give the same source at each of the 67,108,864 positions."
+abbrev pub SameCover : List Record → List Record → Type 0
+SameCover xs ys = (p : ℕ) → p < chunk → cover xs p ≡ cover ys p

@@ -1,8 +1,8 @@
 pub mod Limits
 pub mod Record
+pub mod Ids
 pub mod Cover
 pub mod Passes
-pub mod Numbers
-pub mod Outcome
+pub mod Accepts
 pub mod Refusals
-pub mod Steps
+pub mod Inner

@@ -6,8 +6,9 @@ use lib.Dec.{ltb, eqb}
 use lib.ListN.{length}
 use Rattle.slices.specs.Limits.{recordSize, chunk, maxRecords}
 use Rattle.slices.specs.Record.{count, records}
-use Rattle.slices.specs.Numbers as number
-use Rattle.slices.specs.Outcome.{Outcome, refused, done, Row, row, firstOf}
+use Rattle.outcomes.specs.Numbers as number
+use Rattle.outcomes.specs.Outcome.{Outcome, refused, done, Row, row, firstOf}
+use Rattle.outcomes.specs.Answers.{answerOf}
 use Rattle.slices.specs.declared.Record.{Record}
 use Rattle.slices.specs.declared.Checked.{Checked}
 use Rattle.slices.specs.declared.Checked.the-variants.{Accepted, Refused}
@@ -38,6 +39,10 @@ zerosWithSlice r = eqb (r .id) 0 && (not (eqb (r .size) 0) || not (eqb (r .off) 
 unfoldable pub pastSlice : Record → Bool
 pastSlice r = not (eqb (r .id) 0) && ltb (r .size) (r .off + r .len)
 
+-- 7: chunk length above 64 MiB
+unfoldable pub chunkTooLong : ℕ → Bool
+chunkTooLong l = ltb chunk l
+
 -- ---- the tables
 
 -- the refusals of the record at a place
@@ -65,6 +70,5 @@ unfoldable pub checkOutcome : List ℕ → Outcome ℕ
 checkOutcome bs = firstOf (listRows bs) (done (count bs))
 
 -- the answer of the check
-unfoldable pub checked : Outcome ℕ → Checked
-checked (refused r) = Refused r
-checked (done n) = Accepted n
+abbrev pub checked : Outcome ℕ → Checked
+checked o = answerOf Refused Accepted o

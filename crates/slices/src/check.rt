@@ -4,12 +4,12 @@ use crate::Checked;
 use crate::RECORD;
 use crate::RECORDS;
 use crate::Record;
-use crate::Refusal;
 use crate::records;
-use crate::refusals;
+use outcomes::Refusal;
+use outcomes::refusals;
 ghost use mathlib.Core.Path.{_≡_};
 ghost use Rattle.slices.specs.Refusals.{checkOutcome, checked};
-ghost use Rattle.slices.specs.Steps.{fault};
+ghost use Rattle.slices.specs.Inner.{fault};
 
 // The number with which a record is refused, or 0.
 fn check_record(r: Record) -> u8

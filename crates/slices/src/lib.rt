@@ -1,8 +1,10 @@
 // Slice records of a chunk, which lists of them are refused, and where each byte of the chunk comes from.
 pub mod check;
 pub mod cover;
+pub mod ids;
 pub mod records;
-pub mod refusals;
+
+use outcomes::Refusal;
 
 // The bytes of a record.
 pub const RECORD: usize = 24;
@@ -29,20 +31,8 @@ pub enum Source {
     Byte { id: u64, size: u32, off: u32 },
 }
 
-// A refusal's number, and the place of the record that it speaks of.
-pub struct Refusal {
-    pub number: u8,
-    pub place: usize,
-}
-
 // What is said of a list: its number of records, or the refusal.
 pub enum Checked {
     Accepted(usize),
-    Refused(Refusal),
-}
-
-// What a call that writes answers: the number of bytes that it wrote, or the refusal.
-pub enum Answer {
-    Wrote(usize),
     Refused(Refusal),
 }

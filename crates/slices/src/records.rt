@@ -17,6 +17,14 @@ pub fn read_pos(list: &[u8], i: usize) -> u32
     fixed::read_be32(list, i * RECORD)
 }
 
+// The id of record i.
+pub fn read_id(list: &[u8], i: usize) -> u64
+    requires { ⌜ i * recordSize + recordSize ≤ length (now list) ⌝ }
+    ensures { λ r. ⌜ r ≡ recordAt (now (list .entry)) i .id ⌝ }
+{
+    fixed::read_be64(list, i * RECORD + 4)
+}
+
 // The number of positions of record i.
 pub fn read_len(list: &[u8], i: usize) -> u32
     requires { ⌜ i * recordSize + recordSize ≤ length (now list) ⌝ }
@@ -32,7 +40,7 @@ pub fn read_record(list: &[u8], i: usize) -> Record
 {
     let at = i * RECORD;
     let pos = read_pos(list, i);
-    let id = fixed::read_be64(list, at + 4);
+    let id = read_id(list, i);
     let size = fixed::read_be32(list, at + 12);
     let off = fixed::read_be32(list, at + 16);
     let len = read_len(list, i);

@@ -6,14 +6,10 @@ use lib.Dec.{ltb}
 use lib.ListN.{length}
 use Rattle.slices.specs.Limits.{chunk}
 use Rattle.slices.specs.Record.{records, encodeAll}
-use Rattle.slices.specs.Numbers as number
-use Rattle.slices.specs.Outcome.{Outcome, done, Row, row, firstOf, tooShort}
-use Rattle.slices.specs.Refusals.{listRows}
+use Rattle.outcomes.specs.Numbers as number
+use Rattle.outcomes.specs.Outcome.{Outcome, done, Row, row, firstOf, tooShort}
+use Rattle.slices.specs.Refusals.{chunkTooLong, listRows}
 use Rattle.views.specs.View.{view, tidied, tidiedBytes}
-
--- 7: chunk length above 64 MiB
-unfoldable pub chunkTooLong : ℕ → Bool
-chunkTooLong l = ltb chunk l
 
 -- the most records of a tidied list (refusal 11)
 abbrev pub maxTidied : ℕ

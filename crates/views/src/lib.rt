@@ -1,16 +1,16 @@
 // The resolved view and the tidied list of a slice list.
-pub mod runs;
+mod maximal;
 pub mod segments;
 mod walk;
 
-use slices::Answer;
+use outcomes::Answer;
 use slices::CHUNK;
 use slices::Checked;
 use slices::Source;
 use slices::check;
-use slices::refusals;
+use outcomes::refusals;
 ghost use lib.ListN.{length};
-ghost use Rattle.slices.specs.Outcome.{Answers};
+ghost use Rattle.outcomes.specs.Answers.{Answers};
 ghost use Rattle.views.specs.Calls.{viewOutcome, tidyOutcome};
 
 // The most records that a tidied list may have.

@@ -1,21 +1,22 @@
 // The runs of a list's cover, from the first on: counted, and written as records.
-use crate::runs;
-use slices::Answer;
+use crate::maximal;
+use outcomes::Answer;
 use slices::RECORD;
 use slices::Record;
 use slices::Source;
 use slices::records;
-use slices::refusals;
+use outcomes::refusals;
 ghost use mathlib.Core.Path.{_≡_};
 ghost use Prim.Native.Nat.{_≤_};
 ghost use lib.ListN.{length};
 ghost use Rattle.codec.specs.All.{All};
 ghost use Rattle.codec.specs.Splice.{splice};
-ghost use Rattle.slices.specs.Outcome.{Answers, delivered};
+ghost use Rattle.outcomes.specs.Answers.{Answers};
+ghost use Rattle.outcomes.specs.Outcome.{delivered};
 ghost use Rattle.slices.specs.Passes.{Passes};
 ghost use Rattle.slices.specs.Record.{records, encodeAll};
 ghost use Rattle.views.specs.View.{asRecord};
-ghost use Rattle.views.specs.Steps.{wanted, viewFrom};
+ghost use Rattle.views.specs.Inner.{wanted, viewFrom};
 
 // Whether a run is written: all are, or only those that are covered.
 fn wanted(all: bool, first: Source) -> bool
@@ -24,7 +25,7 @@ fn wanted(all: bool, first: Source) -> bool
     if all {
         return true;
     }
-    if runs::is_nothing(first) {
+    if maximal::is_nothing(first) {
         return false;
     }
     true
@@ -38,7 +39,7 @@ pub(crate) fn count_runs(list: &[u8], end: u32, all: bool) -> usize
     let mut count = 0;
     let mut p = 0;
     while p < end {
-        let run = runs::run_at(list, p, end);
+        let run = maximal::run_at(list, p, end);
         p = run.end;
         let first = run.first;
         if wanted(all, first) {
@@ -86,7 +87,7 @@ fn write_runs(list: &[u8], end: u32, all: bool, out: &mut [u8])
     let mut p = 0;
     let mut at = 0;
     while p < end {
-        let run = runs::run_at(list, p, end);
+        let run = maximal::run_at(list, p, end);
         let from = p;
         p = run.end;
         let first = run.first;

@@ -9,7 +9,7 @@ use borrow.Author.Tests.{ltb-true, ltb-false, leb-true, lt-ltb, le-ltb, le-leb}
 use lib.Dec.{ltb, leb}
 use lib.ListN.{length, drop}
 use Rattle.codec.specs.Decimal.{decimal, digitOf}
-use Rattle.codec.specs.Scan.{digitAt, moreDigits, decimalAt}
+use Rattle.codec.specs.Scan.{digitAt, moreDigits, decimalAt, DecimalRead}
 use Rattle.codec.specs.declared.scan.Step.the-variants.{Next, Stop}
 use Rattle.codec.proofs.Laws.Decimal.{decimal-digit, decimal-more, value, Digits, digit-of, of-digit, value-mono, spelled}
 
@@ -65,12 +65,6 @@ more-reads least most v i text (b ∷ t) j n h e r =
         }
     by-tests ih true d false f r = next-stop r
     by-tests ih false d u f r = more-ends least most v i text (b ∷ t) j n h e (ltb-false _ _ d) (leb least v) refl r
-
-pub record DecimalRead (least most i : ℕ) (text : List ℕ) (j n : ℕ) : Type 0 where
-  pub same : drop i text ≡ decimal n ++ drop j text
-  pub above : least ≤ n
-  pub within : n ≤ most
-  pub after : 10 ≤ digitAt (drop j text)
 
 pub decimal-reads : (least most i : ℕ) (text : List ℕ) (j n : ℕ) → decimalAt least most i (drop i text) ≡ Next j n → DecimalRead least most i text j n
 unfolding decimalAt

@@ -9,11 +9,11 @@ use lib.ListN.{length, take, drop, length-append, length-drop}
 use Rattle.codec.specs.All.{Bytes}
 use Rattle.slices.specs.Record.{count, records}
 use Rattle.slices.proofs.Laws.Record.{length-encodeAll, length-records}
-use Rattle.slices.proofs.Laws.Refusals.{Accepts}
+use Rattle.slices.specs.Accepts.{Accepts}
 use Rattle.compaction.specs.Span.{coversNothing}
 use Rattle.compaction.specs.Compaction.{newRecord, standIn, newList, newListBytes}
 use Rattle.compaction.proofs.Laws.Told.{nothing-empty}
-use Rattle.compaction.proofs.Laws.Firsts.{records-fit}
+use Rattle.slices.proofs.Laws.Firsts.{records-fit}
 use Rattle.compaction.proofs.Laws.NewList.{new-list-passes, new-list-back}
 use Rattle.slices.specs.declared.Record.{Record}
 

@@ -8,7 +8,7 @@ use mathlib.Core.List.{List, [], _∷_}
 use lib.Dec.{eqb}
 use Rattle.slices.specs.Cover.{cover, over, layer, given, covers}
 use Rattle.slices.proofs.Laws.Cover.{covers-before, covers-after}
-use Rattle.views.specs.View.{isNothing}
+use Rattle.slices.specs.Cover.{isNothing}
 use Rattle.compaction.specs.Span.{isCovered}
 use Rattle.slices.specs.declared.Record.{Record}
 use Rattle.slices.specs.declared.Source.{Source}

@@ -10,20 +10,22 @@ use Rattle.codec.specs.All.{All, Bytes}
 use Rattle.codec.specs.Splice.{splice}
 use Rattle.codec.proofs.Laws.Splice.{splices-2}
 use Rattle.slices.specs.Limits.{recordSize}
-use Rattle.slices.specs.Numbers as number
-use Rattle.slices.specs.Outcome.{refused, refusal}
+use Rattle.outcomes.specs.Numbers as number
+use Rattle.outcomes.specs.Outcome.{refused, refusal}
 use Rattle.slices.specs.Passes.{Passes}
 use Rattle.slices.specs.Record.{encodeAll, count, records}
 use Rattle.plans.specs.Piece.{pieceSize, encodePieces}
 use Rattle.plans.specs.Plan.{pieces}
 use Rattle.plans.proofs.Laws.Pieces.{length-encodePieces}
 use Rattle.compaction.specs.Compaction.{compactionPlan, planBytes, newList, newListBytes}
-use Rattle.compaction.specs.Calls.{written, delivered, Compacts}
-use Rattle.compaction.specs.Steps.{standFor, Ends}
-use Rattle.compaction.proofs.Laws.Parts.{all-take}
-use Rattle.compaction.proofs.Laws.Firsts.{encode-append, firsts-records, rest-bytes}
-use Rattle.compaction.proofs.Laws.Calls.{short-plan, short-list, room-for-both, compacts-done}
-use Rattle.plans.specs.declared.Piece.{Piece}
+use Rattle.compaction.specs.Calls.{both, delivered, Compacts}
+use Rattle.compaction.specs.Inner.{standFor, Ends}
+use Rattle.codec.proofs.Laws.All.{all-take}
+use Rattle.slices.proofs.Laws.Firsts.{encode-append, firsts-records, rest-bytes}
+use Rattle.compaction.proofs.Laws.Calls.{short-plan, short-list, room-for-both}
+use Rattle.outcomes.proofs.Laws.Answers.{replies-done}
+use Rattle.runs.specs.Runs.{Run}
+use Rattle.plans.specs.declared.Location.{Location}
 use Rattle.compaction.specs.declared.Compacted.the-variants.{Wrote}
 
 -- what is put behind what stands at the front
@@ -31,7 +33,7 @@ pub put-behind : (out o₁ o₂ a b : List ℕ) (i : ℕ) → i ≡ length a →
 put-behind out o₁ o₂ a b i e h e₁ e₂ = splices-2 out 0 a b i (sym e) (omega arith) e₁ (e₂ ∙ ap (λ (n : ℕ). splice o₁ n b) (sym (zero-add i)))
 
 -- room for the bytes of n pieces
-pub pieces-room : (ps : List Piece) (n room : ℕ) → n ≡ length ps → n * pieceSize ≤ room → length (encodePieces ps) ≤ room
+pub pieces-room : (ps : List (Run Location)) (n room : ℕ) → n ≡ length ps → n * pieceSize ≤ room → length (encodePieces ps) ≤ room
 pieces-room ps n room e h = omega (arith, length-encodePieces ps)
 
 module _ (bs : List ℕ) (b : Bytes bs) (whole : length bs % recordSize ≡ 0) (k : ℕ) (h : k ≤ count bs) where
@@ -61,22 +63,22 @@ module _ (bs : List ℕ) (b : Bytes bs) (whole : length bs % recordSize ≡ 0) (
 
       module _ (plan list : List ℕ) where
         pub first-short-plan : length plan < n * pieceSize
-            → delivered (written B (records bs) k id) (length plan) (length list) ≡ refused (refusal number.shortBuffer 0)
-        unfolding written
-        first-short-plan l = short-plan (written B (records bs) k id) (length plan) (length list) (omega (arith, plan-length))
+            → delivered (both B (records bs) k id) (length plan) (length list) ≡ refused (refusal number.shortBuffer 0)
+        unfolding both
+        first-short-plan l = short-plan (both B (records bs) k id) (length plan) (length list) (omega (arith, plan-length))
 
         module _ (l : n * pieceSize ≤ length plan) where
           pub first-short-list : length list < m + (length bs - k * recordSize)
-              → delivered (written B (records bs) k id) (length plan) (length list) ≡ refused (refusal number.shortBuffer 0)
-          unfolding written
-          first-short-list g = short-list (written B (records bs) k id) (length plan) (length list) (omega (arith, plan-length)) (omega (arith, list-length))
+              → delivered (both B (records bs) k id) (length plan) (length list) ≡ refused (refusal number.shortBuffer 0)
+          unfolding both
+          first-short-list g = short-list (both B (records bs) k id) (length plan) (length list) (omega (arith, plan-length)) (omega (arith, list-length))
 
           pub first-done : m + (length bs - k * recordSize) ≤ length list → (plan' list' : List ℕ)
               → plan' ≡ splice plan 0 (encodePieces (pieces B (records firstBytes) from (end - from)))
               → list' ≡ splice list 0 (encodeAll (standFor from end id) ++ drop (k * recordSize) bs)
-              → Compacts (delivered (written B (records bs) k id) (length plan) (length list)) plan list (Wrote (n * pieceSize) (m + (length bs - k * recordSize))) plan' list'
-          unfolding written
+              → Compacts (delivered (both B (records bs) k id) (length plan) (length list)) plan list (Wrote (n * pieceSize) (m + (length bs - k * recordSize))) plan' list'
+          unfolding both
           first-done g plan' list' p q =
-              compacts-done _ (written B (records bs) k id) plan list plan' list' _ _
-              (room-for-both (written B (records bs) k id) (length plan) (length list) (omega (arith, plan-length)) (omega (arith, list-length)))
-              plan-length list-length (p ∙ ap (splice plan 0) (sym plan-is)) (q ∙ ap (splice list 0) (sym list-is))
+              replies-done _ (both B (records bs) k id) _ _
+              (room-for-both (both B (records bs) k id) (length plan) (length list) (omega (arith, plan-length)) (omega (arith, list-length)))
+              (rw (plan-length, list-length)) (p ∙ ap (splice plan 0) (sym plan-is), (q ∙ ap (splice list 0) (sym list-is), tt))

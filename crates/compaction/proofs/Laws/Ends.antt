@@ -5,6 +5,7 @@ use native.Mathlib.Decide.{decLt}
 use native.Mathlib.Omega.{arith}
 use mathlib.Core.Bool.{Bool, true, false, cond, true≢false}
 use mathlib.Core.Path.{_≡_, refl, sym, _∙_}
+use mathlib.Core.Logic.{_≢_}
 use mathlib.Core.List.{List, [], _∷_}
 use lib.Dec.{eqb}
 use borrow.Author.Tests.{eqb-true, eqb-false}
@@ -12,51 +13,63 @@ use Rattle.codec.specs.All.{All}
 use Rattle.slices.specs.Limits.{chunk}
 use Rattle.slices.specs.Passes.{Passes}
 use Rattle.slices.proofs.Laws.Cover.{covers-in, covers-before, covers-after}
-use Rattle.compaction.specs.Span.{first, last, isCovered, firstCovered, lastCovered, coversNothing}
-use Rattle.compaction.specs.Steps.{lowest, highest}
+use Rattle.compaction.specs.Span.{anyBelow, first, last, isCovered, firstCovered, lastCovered, coversNothing}
+use Rattle.compaction.specs.Inner.{lowest, highest}
 use Rattle.compaction.proofs.Laws.Covered.{covered-nil, covers-empty, none, rest, here}
-use Rattle.compaction.proofs.Laws.Span.{IsFirst, first-is, last-is}
+use Rattle.compaction.proofs.Laws.Span.{some-below, all-below, first-is, last-is, first-unique, last-unique, something-covered}
 use Rattle.slices.specs.declared.Record.{Record}
 
 -- ---- p
 
-lowest-first : (rs : List Record) → IsFirst (isCovered rs) 0 chunk (lowest rs)
+-- nothing is covered below m, and m is, where it is a position of the chunk
+record Low (rs : List Record) (m : ℕ) : Type 0 where
+  high : m ≤ chunk
+  before : (p : ℕ) → p < m → isCovered rs p ≡ false
+  covered : m < chunk → isCovered rs m ≡ true
+
+lowest-low : (rs : List Record) → Low rs (lowest rs)
 unfolding lowest
-lowest-first [] = record { low = omega arith; high = omega arith; before = λ p a b. covered-nil p; here = λ l. absurd (omega arith) }
-lowest-first (r ∷ rs) = go (eqb (r .len) 0) refl (lowest-first rs)
+lowest-low [] = record { high = omega arith; before = λ p b. covered-nil p; covered = λ l. absurd (omega arith) }
+lowest-low (r ∷ rs) = go (eqb (r .len) 0) refl (lowest-low rs)
   where
-    go : (b : Bool) → eqb (r .len) 0 ≡ b → IsFirst (isCovered rs) 0 chunk (lowest rs)
-        → IsFirst (isCovered (r ∷ rs)) 0 chunk (cond b (lowest rs) (min (r .pos) (lowest rs)))
+    go : (b : Bool) → eqb (r .len) 0 ≡ b → Low rs (lowest rs) → Low (r ∷ rs) (cond b (lowest rs) (min (r .pos) (lowest rs)))
     go true e h =
         record {
-          low = omega arith;
           high = h .high;
-          before = λ p a b. none r rs p (h .before p a b) (covers-empty r p (eqb-true (r .len) 0 e));
-          here = λ l. rest r rs (lowest rs) (h .here l);
+          before = λ p b. none r rs p (h .before p b) (covers-empty r p (eqb-true (r .len) 0 e));
+          covered = λ l. rest r rs (lowest rs) (h .covered l);
         }
     go false e h =
         record {
-          low = omega arith;
           high = omega (arith, h .high);
-          before = λ p a b. none r rs p (h .before p a (omega arith)) (covers-before r p (omega arith));
-          here = λ l. elim (decLt (lowest rs) (r .pos)) [
-            | yes q ↦ (let d : min (r .pos) (lowest rs) ≡ lowest rs = omega arith in rw d (rest r rs (lowest rs) (h .here (omega arith))))
+          before = λ p b. none r rs p (h .before p (omega arith)) (covers-before r p (omega arith));
+          covered = λ l. elim (decLt (lowest rs) (r .pos)) [
+            | yes q ↦ (let d : min (r .pos) (lowest rs) ≡ lowest rs = omega arith in rw d (rest r rs (lowest rs) (h .covered (omega arith))))
             | no q ↦
                 (let d : min (r .pos) (lowest rs) ≡ r .pos = omega arith in
                 rw d (here r rs (r .pos) (covers-in r (r .pos) (omega arith) (omega (arith, eqb-false (r .len) 0 e)))))
           ];
         }
 
-first-unique : (t : ℕ → Bool) (at n m k : ℕ) → IsFirst t at n m → IsFirst t at n k → m ≡ k
-first-unique t at n m k h g =
-    elim (decLt m k) [
-      | yes a ↦ absurd (true≢false (sym (h .here (omega (arith, g .high))) ∙ g .before m (h .low) a))
-      | no a ↦ elim (decLt k m) [ yes b ↦ absurd (true≢false (sym (g .here (omega (arith, h .high))) ∙ h .before k (g .low) b)) | no b ↦ omega arith ]
-    ]
+pub lowest-nothing : (rs : List Record) → lowest rs ≡ chunk → coversNothing rs ≡ true
+unfolding coversNothing
+lowest-nothing rs e = rw (all-below (isCovered rs) chunk (λ p l. lowest-low rs .before p (omega arith)))
 
-pub first-lowest : (rs : List Record) → firstCovered rs ≡ lowest rs
-unfolding firstCovered
-first-lowest rs = first-unique (isCovered rs) 0 chunk (firstCovered rs) (lowest rs) (first-is (isCovered rs) 0 chunk) (lowest-first rs)
+module _ (rs : List Record) (ne : lowest rs ≢ chunk) where
+  below : lowest rs < chunk
+  below = let h = lowest-low rs .high in elim (decLt (lowest rs) chunk) [ yes l ↦ l | no l ↦ absurd (ne (omega arith)) ]
+
+  pub lowest-something : coversNothing rs ≡ false
+  unfolding coversNothing
+  lowest-something = rw (some-below (isCovered rs) chunk (lowest rs) below (lowest-low rs .covered below))
+
+  pub first-lowest : firstCovered rs ≡ lowest rs
+  unfolding firstCovered
+  first-lowest =
+      let t = isCovered rs in
+      let h = lowest-low rs in
+      first-unique t chunk (first t chunk) (lowest rs) (first-is t chunk (some-below t chunk (lowest rs) below (h .covered below)))
+      (record { inside = below; here = h .covered below; before = h .before })
 
 -- ---- q + 1
 
@@ -94,19 +107,12 @@ highest-top (r ∷ rs) w = go (eqb (r .len) 0) refl (highest-top rs (w .1))
         }
 
 pub last-highest : (rs : List Record) → All Passes rs → coversNothing rs ≡ false → lastCovered rs + 1 ≡ highest rs
-unfolding lastCovered firstCovered coversNothing
+unfolding lastCovered
 last-highest rs w e =
     let t = isCovered rs in
-    let f = first-is t 0 chunk in
-    let l = last-is t chunk in
+    let l = last-is t chunk (something-covered rs e) in
     let h = highest-top rs w in
-    let low : first t 0 chunk < chunk = omega (arith, f .high, eqb-false (first t 0 chunk) chunk e) in
-    let c : t (last t chunk) ≡ true = l .here (first t 0 chunk) low (f .here (omega arith)) in
-    elim (decLt (last t chunk) (highest rs)) [
-      | yes a ↦
-          elim (decLt (last t chunk) (highest rs - 1)) [
-            | yes b ↦ absurd (true≢false (sym (h .top (omega arith)) ∙ l .beyond (highest rs - 1) b (omega (arith, h .bound))))
-            | no b ↦ omega arith
-          ]
-      | no a ↦ absurd (true≢false (sym c ∙ h .beyond (last t chunk) (omega arith)))
-    ]
+    let some : 0 < highest rs =
+        elim (decLt 0 (highest rs)) [ yes a ↦ a | no a ↦ absurd (true≢false (sym (l .here) ∙ h .beyond (last t chunk) (omega arith))) ] in
+    let m = last-unique t chunk (last t chunk) (highest rs - 1) l (record { inside = omega (arith, h .bound); here = h .top some; beyond = λ p a b. h .beyond p (omega arith) }) in
+    omega arith

@@ -16,8 +16,8 @@ use Rattle.slices.proofs.Laws.Record.{records-back, length-encode}
 use Rattle.slices.proofs.Laws.Refusals.{passes-fits}
 use Rattle.compaction.specs.Span.{coversNothing}
 use Rattle.compaction.specs.Compaction.{extent, newRecord, standIn, newList, newListBytes}
-use Rattle.compaction.specs.Steps.{standFor}
-use Rattle.compaction.proofs.Laws.Parts.{all-drop, all-append}
+use Rattle.compaction.specs.Inner.{standFor}
+use Rattle.codec.proofs.Laws.All.{all-drop, all-append}
 use Rattle.compaction.proofs.Laws.Span.{Spans, spans}
 use Rattle.slices.specs.declared.Record.{Record}
 

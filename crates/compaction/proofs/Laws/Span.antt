@@ -1,71 +1,85 @@
 -- The first and the last position that pass a test, and those of a list's cover: outside of them nothing is covered. Assumes nothing.
-use Prim.Native.Nat.{ℕ, zero, suc, _+_, _<_, _≤_}
+use Prim.Native.Nat.{ℕ, zero, suc, _<_, _≤_}
 use native.Mathlib.Omega.{arith}
 use native.Mathlib.Decide.{decLt, ℕ-discrete}
 use mathlib.Core.Path.{_≡_, refl, sym, ap, _∙_}
-use mathlib.Core.Bool.{Bool, true, false, cond, not, true≢false}
+use mathlib.Core.Bool.{Bool, true, false, cond, not, _||_, true≢false}
 use mathlib.Core.List.{List}
-use borrow.Author.Tests.{eqb-true, eqb-false}
 use Rattle.slices.specs.Limits.{chunk}
 use Rattle.slices.specs.Cover.{cover}
-use Rattle.views.specs.View.{isNothing}
-use Rattle.compaction.specs.Span.{first, last, isCovered, firstCovered, lastCovered, coversNothing}
+use Rattle.slices.specs.Cover.{isNothing}
+use Rattle.compaction.specs.Span.{IsFirst, IsLast, anyBelow, first, last, isCovered, firstCovered, lastCovered, coversNothing}
 use Rattle.slices.specs.declared.Record.{Record}
 use Rattle.slices.specs.declared.Source.{Source}
 use Rattle.slices.specs.declared.Source.the-variants.{Nothing, Zero, Byte}
 
 -- ---- of any test
 
--- m is the first of the n positions from `at` that passes, or at + n
-pub record IsFirst (t : ℕ → Bool) (at n m : ℕ) : Type 0 where
-  pub low : at ≤ m
-  pub high : m ≤ at + n
-  pub before : (p : ℕ) → at ≤ p → p < m → t p ≡ false
-  pub here : m < at + n → t m ≡ true
+or-none : (a b : Bool) → (a || b) ≡ false → (a ≡ false) × (b ≡ false)
+or-none true b e = absurd (true≢false e)
+or-none false b e = (refl, e)
 
-first-step : (t : ℕ → Bool) (at n m : ℕ) → IsFirst t (suc at) n m → (b : Bool) → t at ≡ b → IsFirst t at (suc n) (cond b at m)
-first-step t at n m h true e = record { low = omega arith; high = omega arith; before = λ p a b. absurd (omega arith); here = λ l. e }
-first-step t at n m h false e =
-    record {
-      low = omega (arith, h .low);
-      high = omega (arith, h .high);
-      before = λ p a b. elim (ℕ-discrete at p) [ yes q ↦ ap t (sym q) ∙ e | no q ↦ h .before p (omega arith) b ];
-      here = λ l. h .here (omega arith);
-    }
+module _ (t : ℕ → Bool) where
+  pub none-below : (n : ℕ) → anyBelow t n ≡ false → (p : ℕ) → p < n → t p ≡ false
+  unfolding anyBelow
+  none-below zero e p h = absurd (omega arith)
+  none-below (suc n) e p h =
+      let both = or-none (t n) (anyBelow t n) e in
+      elim (ℕ-discrete n p) [ yes q ↦ ap t (sym q) ∙ both .0 | no q ↦ none-below n (both .1) p (omega arith) ]
 
-pub first-is : (t : ℕ → Bool) (at n : ℕ) → IsFirst t at n (first t at n)
-unfolding first
-first-is t at zero = record { low = omega arith; high = omega arith; before = λ p a b. absurd (omega arith); here = λ l. absurd (omega arith) }
-first-is t at (suc n) = first-step t at n (first t (suc at) n) (first-is t (suc at) n) (t at) refl
+  pub some-below : (n p : ℕ) → p < n → t p ≡ true → anyBelow t n ≡ true
+  some-below n p h e = go (anyBelow t n) refl
+    where
+      go : (b : Bool) → anyBelow t n ≡ b → anyBelow t n ≡ true
+      go true k = k
+      go false k = absurd (true≢false (sym e ∙ none-below n k p h))
 
--- m is the last position below n that passes, if one does
-pub record IsLast (t : ℕ → Bool) (n m : ℕ) : Type 0 where
-  pub below : 0 < n → m < n
-  pub beyond : (p : ℕ) → m < p → p < n → t p ≡ false
-  pub here : (p : ℕ) → p < n → t p ≡ true → t m ≡ true
+  pub all-below : (n : ℕ) → ((p : ℕ) → p < n → t p ≡ false) → anyBelow t n ≡ false
+  unfolding anyBelow
+  all-below zero h = refl
+  all-below (suc n) h = rw (h n (omega arith), all-below n (λ p l. h p (omega arith)))
 
-last-step : (t : ℕ → Bool) (n m : ℕ) → m ≤ n → IsLast t n m → (b : Bool) → t n ≡ b → IsLast t (suc n) (cond b n m)
-last-step t n m l h true e = record { below = omega arith; beyond = λ p a b. absurd (omega arith); here = λ p a b. e }
-last-step t n m l h false e =
-    record {
-      below = omega arith;
-      beyond = λ p a b. elim (ℕ-discrete n p) [ yes q ↦ ap t (sym q) ∙ e | no q ↦ h .beyond p a (omega arith) ];
-      here = λ p a b. elim (ℕ-discrete n p) [ yes q ↦ absurd (true≢false (sym b ∙ ap t (sym q) ∙ e)) | no q ↦ h .here p (omega arith) b ];
-    }
+  pub first-is : (n : ℕ) → anyBelow t n ≡ true → IsFirst t n (first t n)
+  unfolding anyBelow first
+  first-is zero e = absurd (true≢false (sym e))
+  first-is (suc n) e = go (anyBelow t n) refl e (first-is n)
+    where
+      go : (b : Bool) → anyBelow t n ≡ b → (t n || b) ≡ true → (anyBelow t n ≡ true → IsFirst t n (first t n)) → IsFirst t (suc n) (cond b (first t n) n)
+      go true k e ih = let f = ih k in record { inside = omega (arith, f .inside); here = f .here; before = f .before }
+      go false k e ih = record { inside = omega arith; here = or-left (t n) e; before = none-below n k }
+        where
+          or-left : (a : Bool) → (a || false) ≡ true → a ≡ true
+          or-left true h = refl
+          or-left false h = h
 
-last-most : (t : ℕ → Bool) (n : ℕ) → last t n ≤ n
-unfolding last
-last-most t zero = omega arith
-last-most t (suc n) = go (t n) (last-most t n)
-  where
-    go : (b : Bool) → last t n ≤ n → cond b n (last t n) ≤ suc n
-    go true h = omega arith
-    go false h = omega arith
+  pub last-is : (n : ℕ) → anyBelow t n ≡ true → IsLast t n (last t n)
+  unfolding anyBelow last
+  last-is zero e = absurd (true≢false (sym e))
+  last-is (suc n) e = go (t n) refl e (last-is n)
+    where
+      go : (b : Bool) → t n ≡ b → (b || anyBelow t n) ≡ true → (anyBelow t n ≡ true → IsLast t n (last t n)) → IsLast t (suc n) (cond b n (last t n))
+      go true k e ih = record { inside = omega arith; here = k; beyond = λ p a b. absurd (omega arith) }
+      go false k e ih =
+          let l = ih e in
+          record {
+            inside = omega (arith, l .inside);
+            here = l .here;
+            beyond = λ p a b. elim (ℕ-discrete n p) [ yes q ↦ ap t (sym q) ∙ k | no q ↦ l .beyond p a (omega arith) ];
+          }
 
-pub last-is : (t : ℕ → Bool) (n : ℕ) → IsLast t n (last t n)
-unfolding last
-last-is t zero = record { below = omega arith; beyond = λ p a b. absurd (omega arith); here = λ p a b. absurd (omega arith) }
-last-is t (suc n) = last-step t n (last t n) (last-most t n) (last-is t n) (t n) refl
+  pub first-unique : (n m k : ℕ) → IsFirst t n m → IsFirst t n k → m ≡ k
+  first-unique n m k f g =
+      elim (decLt m k) [
+        | yes a ↦ absurd (true≢false (sym (f .here) ∙ g .before m a))
+        | no a ↦ elim (decLt k m) [ yes b ↦ absurd (true≢false (sym (g .here) ∙ f .before k b)) | no b ↦ omega arith ]
+      ]
+
+  pub last-unique : (n m k : ℕ) → IsLast t n m → IsLast t n k → m ≡ k
+  last-unique n m k f g =
+      elim (decLt m k) [
+        | yes a ↦ absurd (true≢false (sym (g .here) ∙ f .beyond k a (g .inside)))
+        | no a ↦ elim (decLt k m) [ yes b ↦ absurd (true≢false (sym (f .here) ∙ g .beyond m b (f .inside))) | no b ↦ omega arith ]
+      ]
 
 -- ---- of a list's cover
 
@@ -88,29 +102,37 @@ pub record Spans (xs : List Record) : Type 0 where
   pub left : (p : ℕ) → p < firstCovered xs → cover xs p ≡ Nothing
   pub right : (p : ℕ) → lastCovered xs < p → p < chunk → cover xs p ≡ Nothing
 
+not-false : (b : Bool) → not b ≡ false → b ≡ true
+not-false true e = refl
+not-false false e = absurd (true≢false e)
+
+not-true : (b : Bool) → not b ≡ true → b ≡ false
+not-true true e = sym e
+not-true false e = refl
+
+pub something-covered : (xs : List Record) → coversNothing xs ≡ false → anyBelow (isCovered xs) chunk ≡ true
+unfolding coversNothing
+something-covered xs e = not-false (anyBelow (isCovered xs) chunk) e
+
 pub spans : (xs : List Record) → coversNothing xs ≡ false → Spans xs
-unfolding coversNothing firstCovered lastCovered
+unfolding firstCovered lastCovered
 spans xs e =
     let t = isCovered xs in
-    let f = first-is t 0 chunk in
-    let l = last-is t chunk in
-    let n = eqb-false (first t 0 chunk) chunk e in
-    let low : first t 0 chunk < chunk = omega (arith, f .high) in
-    let here = f .here (omega arith) in
+    let some = something-covered xs e in
+    let f = first-is t chunk some in
+    let l = last-is t chunk some in
     record {
-      order = elim (decLt (last t chunk) (first t 0 chunk)) [
-        | yes h ↦ absurd (true≢false (sym here ∙ l .beyond (first t 0 chunk) h low))
+      order = elim (decLt (last t chunk) (first t chunk)) [
+        | yes h ↦ absurd (true≢false (sym (l .here) ∙ f .before (last t chunk) h))
         | no h ↦ omega arith
       ];
-      top = l .below (omega arith);
-      at-first = here;
-      at-last = l .here (first t 0 chunk) low here;
-      left = λ p h. uncovered xs p (f .before p (omega arith) h);
+      top = l .inside;
+      at-first = f .here;
+      at-last = l .here;
+      left = λ p h. uncovered xs p (f .before p h);
       right = λ p a b. uncovered xs p (l .beyond p a b);
     }
 
 pub nothing-covered : (xs : List Record) → coversNothing xs ≡ true → (p : ℕ) → p < chunk → cover xs p ≡ Nothing
-unfolding coversNothing firstCovered
-nothing-covered xs e p h =
-    let q = eqb-true (first (isCovered xs) 0 chunk) chunk e in
-    uncovered xs p (first-is (isCovered xs) 0 chunk .before p (omega arith) (omega arith))
+unfolding coversNothing
+nothing-covered xs e p h = uncovered xs p (none-below (isCovered xs) chunk (not-true (anyBelow (isCovered xs) chunk) e) p h)

@@ -1,14 +1,15 @@
 -- `compaction::compact` meets its contract: each answer is that of its case. Assumes nothing.
 use Prim.Native.Nat.{_≤_}
 use native.Mathlib.Omega.{arith}
-use mathlib.Core.Path.{_≡_, sym, _∙_}
+use mathlib.Core.Path.{_≡_, refl, sym, _∙_}
 use denote.Ref.{now}
 use Rattle.slices.specs.Refusals.{checkOutcome, checked}
 use Rattle.slices.specs.declared.Checked.the-variants.{Accepted}
 use Rattle.slices.proofs.Laws.Refusals.{check-accepts}
 use Rattle.blocks.specs.Blocks.{smallest, largest}
 use Rattle.blocks.proofs.Laws.Blocks.{block-range}
-use Rattle.compaction.proofs.Laws.Calls.{compact-8, compact-refused, compact-accepted, compacts-refused, compacts-refusal, compacts-as}
+use Rattle.compaction.proofs.Laws.Calls.{compact-8, compact-refused, compact-accepted}
+use Rattle.outcomes.proofs.Laws.Answers.{replies-refused, replies-as}
 use borrow.Author.Needs.{needs}
 use Rattle.compaction.proofs.compact.Statement.{statement}
 use Rattle.compaction.proofs.compact.Tie as tie
@@ -40,7 +41,7 @@ compact-accepted-requires : tie.Need-compact-accepted-requires
 compact-accepted-requires c κs =
     let told = c .before .before in
     let a = check-accepts _ _ (accepted told) in
-    ((a .whole, a .few, a .pass), omega (arith, ranged (told .before .before .before)))
+    (a, omega (arith, ranged (told .before .before .before)))
 
 refusal-requires : tie.Need-refusal-requires
 refusal-requires c κs = search needs
@@ -49,7 +50,7 @@ returns : tie.Need-returns
 returns c =
     let checked = c .before .before .before in
     let tested = checked .before in
-    compacts-refused _ _ _ _ (compact-refused _ _ _ _ _ _ _ (tested .before .block-allowed .ensures) (tested .if1 .taken) _ (sym (checked .check-list .ensures) ∙ c .before .refusal .given .1))
+    replies-refused _ _ _ _ (compact-refused _ _ _ _ _ _ _ (tested .before .block-allowed .ensures) (tested .if1 .taken) _ (sym (checked .check-list .ensures) ∙ c .before .refusal .given .1)) refl (refl, (refl, tt))
 
 same-length : tie.Need-same-length
 same-length c = search needs
@@ -62,14 +63,14 @@ returns-2 c =
     let answered = c .before .before .before .before in
     let told = answered .before .before .before in
     let tested = told .before .before .before in
-    compacts-as _ _ _ _ _ _ _
+    replies-as _ _ _ _
     (compact-accepted _ _ _ _ _ _ _ (tested .before .block-allowed .ensures) (tested .if1 .taken) _ (accepted told))
     (answered .compact-accepted .ensures)
 
 returns-3 : tie.Need-returns-3
 returns-3 c =
     let tested = c .before in
-    compacts-refusal _ _ _ _ _ (compact-8 _ _ _ _ _ _ _ (tested .before .block-allowed .ensures) (tested .if1 .left)) (c .refusal2 .ensures)
+    replies-refused _ _ _ _ (compact-8 _ _ _ _ _ _ _ (tested .before .block-allowed .ensures) (tested .if1 .left)) (c .refusal2 .ensures) (refl, (refl, tt))
 
 pub compact-spec : {M : Type 1} → statement M
 compact-spec =

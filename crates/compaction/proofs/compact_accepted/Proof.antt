@@ -1,7 +1,8 @@
 -- `compaction::compact_accepted` meets its contract: each answer is that of its case. Assumes nothing.
-use mathlib.Core.Path.{sym, _∙_}
+use mathlib.Core.Path.{refl, sym, _∙_}
 use Rattle.slices.specs.Record.{count}
-use Rattle.compaction.proofs.Laws.Calls.{later-10, later-9, later-12, compacts-refusal, compacts-as}
+use Rattle.compaction.proofs.Laws.Calls.{later-10, later-9, later-12}
+use Rattle.outcomes.proofs.Laws.Answers.{replies-refused, replies-as}
 use borrow.Author.Needs.{needs}
 use Rattle.compaction.proofs.compact_accepted.Statement.{statement}
 use Rattle.compaction.proofs.compact_accepted.Tie as tie
@@ -11,7 +12,7 @@ refusal-requires c κs = search needs
 
 returns : tie.Need-returns
 unfolding count
-returns c = compacts-refusal _ _ _ _ _ (later-10 _ _ _ _ _ _ (c .before .if1 .taken)) (c .refusal .ensures)
+returns c = replies-refused _ _ _ _ (later-10 _ _ _ _ _ _ (c .before .if1 .taken)) (c .refusal .ensures) (refl, (refl, tt))
 
 in-use-requires : tie.Need-in-use-requires
 in-use-requires c κs = search needs
@@ -23,7 +24,7 @@ returns-2 : tie.Need-returns-2
 unfolding count
 returns-2 c =
     let used = c .before .before in
-    compacts-refusal _ _ _ _ _ (later-9 _ _ _ _ _ _ (used .before .if1 .left) (sym (used .in-use .ensures) ∙ c .before .if2 .taken)) (c .refusal2 .ensures)
+    replies-refused _ _ _ _ (later-9 _ _ _ _ _ _ (used .before .if1 .left) (sym (used .in-use .ensures) ∙ c .before .if2 .taken)) (c .refusal2 .ensures) (refl, (refl, tt))
 
 compact-first-requires : tie.Need-compact-first-requires
 unfolding count
@@ -44,7 +45,7 @@ returns-3 c =
     let first = c .before .before .before .before in
     let fresh = first .before .before .before in
     let used = fresh .before in
-    compacts-as _ _ _ _ _ _ _ (later-12 _ _ _ _ _ _ (used .before .if1 .left) (sym (used .in-use .ensures) ∙ fresh .if2 .left)) (first .compact-first .ensures)
+    replies-as _ _ _ _ (later-12 _ _ _ _ _ _ (used .before .if1 .left) (sym (used .in-use .ensures) ∙ fresh .if2 .left)) (first .compact-first .ensures)
 
 pub compact-accepted-spec : {M : Type 1} → statement M
 compact-accepted-spec =

@@ -10,8 +10,8 @@ use Rattle.codec.specs.All.{All, Bytes}
 use Rattle.slices.specs.Limits.{recordSize}
 use Rattle.slices.specs.Passes.{Passes}
 use Rattle.slices.specs.Record.{count, records}
-use Rattle.compaction.proofs.Laws.Parts.{all-bytes}
-use Rattle.compaction.proofs.Laws.Calls.{compacts-refusal}
+use Rattle.codec.proofs.Laws.All.{all-bytes}
+use Rattle.outcomes.proofs.Laws.Answers.{replies-refused}
 use Rattle.compaction.proofs.Laws.NewList.{stand-most}
 use Rattle.compaction.proofs.Laws.Delivery.{pieces-room, firsts-pass, first-short-plan, first-short-list, first-done}
 use borrow.Author.Needs.{needs}
@@ -24,7 +24,7 @@ bytes c = all-bytes (now (c .before .args .list)) (λ i. c .shared-slice-known .
 
 -- the first k records pass
 passing : (c : tie.After-shared-slice-known) → let bs = now (c .before .args .list) in All Passes (records (take (c .before .args .k * recordSize) bs))
-passing c = firsts-pass _ (bytes c) (c .before .pre .0 .0) _ (c .before .pre .1 .1) (c .before .pre .0 .2)
+passing c = firsts-pass _ (bytes c) (c .before .pre .0 .whole) _ (c .before .pre .1 .1) (c .before .pre .0 .pass)
 
 mul-cut : tie.Need-mul-cut
 mul-cut c = search needs
@@ -55,9 +55,9 @@ returns c =
     let span = counted .before in
     let known = span .before .before .before .before in
     let start = known .before in
-    compacts-refusal _ _ _ _ _
-    (first-short-plan _ (bytes known) (start .pre .0 .0) _ (start .pre .1 .1) _ _ (span .span .ensures) _ (start .args .new-id) _ _ (counted .count-pieces .ensures .0) refl (now (start .args .plan)) (now (start .args .new-list)) (c .before .if1 .taken))
-    (c .refusal .ensures)
+    replies-refused _ _ _ _
+    (first-short-plan _ (bytes known) (start .pre .0 .whole) _ (start .pre .1 .1) _ _ (span .span .ensures) _ (start .args .new-id) _ _ (counted .count-pieces .ensures .0) refl (now (start .args .plan)) (now (start .args .new-list)) (c .before .if1 .taken))
+    (c .refusal .ensures) (refl, (refl, tt))
 
 stand-in-bytes-requires : tie.Need-stand-in-bytes-requires
 stand-in-bytes-requires c κs = search needs
@@ -73,7 +73,7 @@ unfolding count
 add-list-bytes c =
     let span = c .before .before .before in
     let start = span .before .before .before .before .before in
-    omega (arith, start .pre .0 .1, c .stand-in-bytes .ensures, stand-most (span .span .result .from) (span .span .result .end) (start .args .new-id))
+    omega (arith, start .pre .0 .few, c .stand-in-bytes .ensures, stand-most (span .span .result .from) (span .span .result .end) (start .args .new-id))
 
 refusal-requires-2 : tie.Need-refusal-requires-2
 refusal-requires-2 c κs = search needs
@@ -85,9 +85,9 @@ returns-2 c =
     let span = counted .before in
     let known = span .before .before .before .before in
     let start = known .before in
-    compacts-refusal _ _ _ _ _
-    (first-short-list _ (bytes known) (start .pre .0 .0) _ (start .pre .1 .1) _ _ (span .span .ensures) _ (start .args .new-id) _ _ (counted .count-pieces .ensures .0) (new .stand-in-bytes .ensures) (now (start .args .plan)) (now (start .args .new-list)) (new .before .if1 .left) (c .before .if2 .taken))
-    (c .refusal2 .ensures)
+    replies-refused _ _ _ _
+    (first-short-list _ (bytes known) (start .pre .0 .whole) _ (start .pre .1 .1) _ _ (span .span .ensures) _ (start .args .new-id) _ _ (counted .count-pieces .ensures .0) (new .stand-in-bytes .ensures) (now (start .args .plan)) (now (start .args .new-list)) (new .before .if1 .left) (c .before .if2 .taken))
+    (c .refusal2 .ensures) (refl, (refl, tt))
 
 write-pieces-requires : tie.Need-write-pieces-requires
 write-pieces-requires c κs =
@@ -121,7 +121,7 @@ returns-3 c =
     let span = counted .before in
     let known = span .before .before .before .before in
     let start = known .before in
-    first-done _ (bytes known) (start .pre .0 .0) _ (start .pre .1 .1) _ _ (span .span .ensures) _ (start .args .new-id) _ _ (counted .count-pieces .ensures .0) (new .stand-in-bytes .ensures) _ _
+    first-done _ (bytes known) (start .pre .0 .whole) _ (start .pre .1 .1) _ _ (span .span .ensures) _ (start .args .new-id) _ _ (counted .count-pieces .ensures .0) (new .stand-in-bytes .ensures) _ _
     (new .before .if1 .left) (room .if2 .left) _ _ (planned .write-pieces .ensures) (listed .write-list .ensures)
 
 pub compact-first-spec : {M : Type 1} → statement M

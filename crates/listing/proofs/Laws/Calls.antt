@@ -6,13 +6,13 @@ use mathlib.Core.List.{List, _++_}
 use borrow.Author.Tests.{lt-ltb, le-ltb}
 use Rattle.slices.specs.Limits.{chunk}
 use Rattle.slices.specs.Record.{records}
-use Rattle.slices.specs.Numbers.{shortBuffer, tooMany}
-use Rattle.slices.specs.Outcome.{refused, done, refusal, firstOf}
-use Rattle.slices.proofs.Laws.Outcome.{row-holds}
+use Rattle.outcomes.specs.Numbers.{shortBuffer, tooMany}
+use Rattle.outcomes.specs.Outcome.{refused, done, refusal, firstOf}
+use Rattle.outcomes.proofs.Laws.Outcome.{row-holds}
 use Rattle.views.specs.Calls.{viewOutcome}
 use Rattle.listing.specs.Listing.{fileLimit, header, lines, refusedLine, textOf, listing}
 use Rattle.listing.specs.Calls.{textRoom, textOutcome}
-use Rattle.slices.specs.declared.Refusal.{Refusal}
+use Rattle.outcomes.specs.declared.Refusal.{Refusal}
 
 module _ (longer : Bool) (bs : List ℕ) where
   pub text-12 : (room : ℕ) → room < textRoom → textOutcome longer bs room ≡ refused (refusal shortBuffer 0)

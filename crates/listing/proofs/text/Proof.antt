@@ -5,8 +5,10 @@ use mathlib.Core.Path.{sym, ap, _∙_}
 use lib.ListN.{length, length-take}
 use denote.Ref.{now}
 use Rattle.slices.specs.Limits.{chunk}
-use Rattle.slices.specs.Outcome.{done, Answers}
-use Rattle.slices.proofs.Laws.Outcome.{Written, answers-refusal, answers-done, said-refused, said-wrote}
+use Rattle.outcomes.specs.Outcome.{done}
+use Rattle.outcomes.specs.Answers.{Answers}
+use Rattle.outcomes.specs.Answers.{Written}
+use Rattle.outcomes.proofs.Laws.Answers.{answers-refusal, answers-done, said-refused, said-wrote}
 use Rattle.views.specs.Calls.{viewOutcome}
 use Rattle.views.proofs.Laws.Calls.{view-fits}
 use Rattle.listing.specs.Listing.{fileLimit}

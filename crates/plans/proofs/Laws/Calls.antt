@@ -7,19 +7,19 @@ use mathlib.Core.List.{List}
 use borrow.Author.Tests.{lt-ltb, le-ltb}
 use Rattle.slices.specs.Limits.{chunk}
 use Rattle.slices.specs.Record.{records}
-use Rattle.slices.specs.Numbers as number
-use Rattle.slices.specs.Outcome.{refused, done, refusal, delivered, NoneHolds, Given}
+use Rattle.outcomes.specs.Numbers as number
+use Rattle.outcomes.specs.Outcome.{refused, done, refusal, delivered, NoneHolds, Given}
 use Rattle.slices.specs.Refusals.{checkOutcome, checked}
-use Rattle.slices.proofs.Laws.Outcome.{row-holds, row-passes, refused-exactly, answered-exactly}
-use Rattle.views.specs.Calls.{chunkTooLong}
-use Rattle.views.proofs.Laws.Calls.{list-stops, list-lets}
+use Rattle.outcomes.proofs.Laws.Outcome.{row-holds, row-passes, refused-exactly, answered-exactly}
+use Rattle.slices.specs.Refusals.{chunkTooLong}
+use Rattle.slices.proofs.Laws.Refusals.{list-stops, list-lets}
 use Rattle.blocks.specs.Blocks.{blockAllowed, blockSizeBad}
 use Rattle.plans.specs.Piece.{encodePieces}
 use Rattle.plans.specs.Plan.{pieces}
-use Rattle.plans.specs.Steps.{Cut}
+use Rattle.plans.specs.Inner.{Cut}
 use Rattle.plans.specs.Calls.{planBytes, readRows, readOutcome}
 use Rattle.plans.proofs.Laws.Walk.{plan-cut}
-use Rattle.slices.specs.declared.Refusal.{Refusal}
+use Rattle.outcomes.specs.declared.Refusal.{Refusal}
 use Rattle.slices.specs.declared.Checked.the-variants.{Accepted, Refused}
 
 module _ (bs : List ℕ) (l B start count room : ℕ) where

@@ -10,8 +10,11 @@ use Rattle.codec.specs.All.{All}
 use Rattle.codec.specs.Fixed.{bigEndian}
 use Rattle.codec.proofs.Laws.Fixed.{length-bigEndian, numberAt-behind, field-back}
 use Rattle.codec.proofs.Laws.Groups.{length-written, groups-back}
-use Rattle.plans.specs.Piece.{pieceSize, encodePiece, encodePieces, decodePiece, piecesIn, PieceFits}
-use Rattle.plans.specs.Steps.{encodeObject}
+use Rattle.runs.specs.Runs.{Run}
+use Rattle.plans.specs.Piece.{pieceSize, pieceOf, encodePiece, encodeRun, encodePieces, decodePiece, locationOf, runOf, decodeRun, piecesIn, PieceFits, RunFits}
+use Rattle.plans.specs.Inner.{encodeObject}
+use Rattle.plans.specs.declared.Location.{Location}
+use Rattle.plans.specs.declared.Location.the-variants.{Hole, In}
 use Rattle.plans.specs.declared.Piece.{Piece}
 
 pub length-encodeObject : (p : Piece) → length (encodeObject p) ≡ 20
@@ -27,9 +30,13 @@ pub length-encodePiece : (p : Piece) → length (encodePiece p) ≡ pieceSize
 unfolding encodePiece
 length-encodePiece p = simp (length-append, length-bigEndian)
 
-pub length-encodePieces : (ps : List Piece) → length (encodePieces ps) ≡ length ps * pieceSize
+pub length-encodeRun : (r : Run Location) → length (encodeRun r) ≡ pieceSize
+unfolding encodeRun
+length-encodeRun r = length-encodePiece (pieceOf (r .start) (r .len) (r .first))
+
+pub length-encodePieces : (rs : List (Run Location)) → length (encodePieces rs) ≡ length rs * pieceSize
 unfolding encodePieces
-length-encodePieces ps = length-written encodePiece pieceSize length-encodePiece ps
+length-encodePieces rs = length-written encodeRun pieceSize length-encodeRun rs
 
 -- ---- one piece
 
@@ -64,12 +71,22 @@ piece-back p h = ap (λ (bs : List ℕ). decodePiece bs 0) (sym (append-nil (enc
 
 -- ---- a plan
 
+-- a run's piece says the run
+run-of : (from n : ℕ) (a : Location) → runOf (pieceOf from n a) ≡ record { start = from; len = n; first = a }
+unfolding runOf locationOf pieceOf
+run-of from n Hole = refl
+run-of from n (In i b l a) = refl
+
+run-back : (r : Run Location) (rest : List ℕ) → RunFits r → decodeRun (encodeRun r ++ rest) 0 ≡ r
+unfolding decodeRun encodeRun
+run-back r rest h = ap runOf (decode-encode (pieceOf (r .start) (r .len) (r .first)) rest h) ∙ run-of (r .start) (r .len) (r .first)
+
 -- what stands in front of a piece does not count
-decode-behind : (pre bs : List ℕ) (at : ℕ) → decodePiece (pre ++ bs) (length pre + at) ≡ decodePiece bs at
-unfolding decodePiece
+decode-behind : (pre bs : List ℕ) (at : ℕ) → decodeRun (pre ++ bs) (length pre + at) ≡ decodeRun bs at
+unfolding decodeRun decodePiece
 decode-behind pre bs at = simp (add-assoc, numberAt-behind pre bs)
 
 -- a plan that is written is read back
-pub pieces-back : (ps : List Piece) → All PieceFits ps → piecesIn (encodePieces ps) ≡ ps
+pub pieces-back : (rs : List (Run Location)) → All RunFits rs → piecesIn (encodePieces rs) ≡ rs
 unfolding encodePieces piecesIn
-pieces-back ps f = groups-back decodePiece pieceSize (omega arith) decode-behind encodePiece length-encodePiece PieceFits decode-encode ps f
+pieces-back rs f = groups-back decodeRun pieceSize (omega arith) decode-behind encodeRun length-encodeRun RunFits run-back rs f

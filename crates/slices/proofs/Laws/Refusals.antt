@@ -7,7 +7,7 @@ use native.Mathlib.Numerals.{add-one}
 use mathlib.Core.Path.{_≡_, refl, sym, ap, _∙_}
 use mathlib.Core.Logic.{_≢_, _↔_}
 use mathlib.Core.Bool.{Bool, true, false, cond, not, _&&_, _||_, false≢true}
-use mathlib.Core.List.{List, [], _∷_}
+use mathlib.Core.List.{List, [], _∷_, _++_}
 use lib.Dec.{ltb, eqb}
 use lib.ListN.{length}
 use borrow.Author.Tests.{ltb-false, eqb-true, eqb-false, eq-eqb, ne-eqb, lt-ltb, le-ltb}
@@ -16,14 +16,16 @@ use Rattle.codec.specs.Groups.{groupsFrom}
 use Rattle.slices.specs.Limits.{recordSize, chunk, maxRecords}
 use Rattle.slices.specs.Record.{recordAt, recordsFrom, count, records, Fits}
 use Rattle.slices.specs.Passes.{Passes}
-use Rattle.slices.specs.Numbers as number
-use Rattle.slices.specs.Outcome.{Outcome, refused, done, refusal, Row, firstOf, NoneHolds, Given}
+use Rattle.slices.specs.Accepts.{Accepts}
+use Rattle.outcomes.specs.Numbers as number
+use Rattle.outcomes.specs.Outcome.{Outcome, refused, done, refusal, Row, firstOf, NoneHolds, Given}
 use Rattle.slices.specs.Refusals.{notWhole, tooMany, pastChunk, tooLarge, zerosWithSlice, pastSlice, recordRows, rowsFrom, listRows, checkOutcome, checked}
-use Rattle.slices.specs.Steps.{fault}
-use Rattle.slices.proofs.Laws.Outcome.{none-passes, done-none, stops, row-holds, row-passes, refused-exactly, answered-exactly}
+use Rattle.slices.specs.Inner.{fault}
+use Rattle.outcomes.proofs.Laws.Outcome.{firstOf-append, none-passes, done-none, stops, row-holds, row-passes, refused-exactly, answered-exactly}
 use Rattle.slices.specs.declared.Record.{Record}
-use Rattle.slices.specs.declared.Refusal.{Refusal}
+use Rattle.outcomes.specs.declared.Refusal.{Refusal}
 use Rattle.slices.specs.declared.Checked.the-variants.{Accepted, Refused}
+use Rattle.outcomes.specs.Answers.{answerOf}
 
 -- ---- one record
 
@@ -182,12 +184,6 @@ pass-rows at (r ∷ rs) h =
     let n = pass-none r at (h .0) in
     (n .0, (n .1 .0, (n .1 .1 .0, (n .1 .1 .1 .0, pass-rows (suc at) rs (h .1)))))
 
--- a list is accepted exactly where it has whole records, not too many of them, and each passes 3 to 6
-pub record Accepts (bs : List ℕ) : Type 0 where
-  pub whole : length bs % recordSize ≡ 0
-  pub few : count bs ≤ maxRecords
-  pub pass : All Passes (records bs)
-
 pub none-accepts : (bs : List ℕ) → NoneHolds (listRows bs) → Accepts bs
 unfolding listRows notWhole tooMany
 none-accepts bs h =
@@ -222,12 +218,12 @@ check-answered-exactly bs = answered-exactly (count bs) (listRows bs)
 -- ---- what the check's answer tells a call that makes it
 
 checked-done : (o : Outcome ℕ) (n : ℕ) → checked o ≡ Accepted n → o ≡ done n
-unfolding checked
+unfolding answerOf
 checked-done (refused r) n h = let z : _≡_ {A = ℕ} 0 1 = cc in absurd (omega arith)
 checked-done (done m) n h = let e : m ≡ n = cc in ap done e
 
 checked-refused : (o : Outcome ℕ) (r : Refusal) → checked o ≡ Refused r → o ≡ refused r
-unfolding checked
+unfolding answerOf
 checked-refused (refused q) r h = let e : q ≡ r = cc in ap refused e
 checked-refused (done m) r h = let z : _≡_ {A = ℕ} 0 1 = cc in absurd (omega arith)
 
@@ -243,3 +239,11 @@ module _ (bs : List ℕ) where
   pub check-stops : {A : Type 0} (o : Outcome A) (r : Refusal) → checked (checkOutcome bs) ≡ Refused r → firstOf (listRows bs) o ≡ refused r
   unfolding checkOutcome
   check-stops o r h = stops (count bs) (listRows bs) o r (checked-refused (checkOutcome bs) r h)
+
+-- a refused list's rows refuse, an accepted one's let through the rows behind them
+module _ {A : Type 0} (bs : List ℕ) (rest : List Row) (o : Outcome A) where
+  pub list-stops : (r : Refusal) → checked (checkOutcome bs) ≡ Refused r → firstOf (listRows bs ++ rest) o ≡ refused r
+  list-stops r h = firstOf-append (listRows bs) rest o ∙ check-stops bs (firstOf rest o) r h
+
+  pub list-lets : (n : ℕ) → checked (checkOutcome bs) ≡ Accepted n → firstOf (listRows bs ++ rest) o ≡ firstOf rest o
+  list-lets n h = firstOf-append (listRows bs) rest o ∙ check-lets bs (firstOf rest o) n h

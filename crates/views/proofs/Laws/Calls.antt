@@ -8,25 +8,18 @@ use lib.ListN.{length}
 use borrow.Author.Tests.{lt-ltb, le-ltb}
 use Rattle.slices.specs.Limits.{chunk}
 use Rattle.slices.specs.Record.{records, encodeAll}
-use Rattle.slices.specs.Numbers as number
-use Rattle.slices.specs.Outcome.{Outcome, refused, done, refusal, Row, row, firstOf, delivered, NoneHolds, Given}
+use Rattle.outcomes.specs.Numbers as number
+use Rattle.outcomes.specs.Outcome.{Outcome, refused, done, refusal, Row, row, firstOf, delivered, NoneHolds, Given}
 use Rattle.slices.specs.Refusals.{listRows, checkOutcome, checked}
-use Rattle.slices.proofs.Laws.Outcome.{firstOf-append, row-holds, row-passes, done-fits, refused-exactly, answered-exactly}
-use Rattle.slices.proofs.Laws.Refusals.{check-lets, check-stops}
+use Rattle.outcomes.proofs.Laws.Outcome.{firstOf-append, row-holds, row-passes, done-fits, refused-exactly, answered-exactly}
+use Rattle.slices.proofs.Laws.Refusals.{check-lets, check-stops, list-stops, list-lets}
 use Rattle.views.specs.View.{tidiedBytes}
-use Rattle.views.specs.Calls.{chunkTooLong, maxTidied, tidiedTooLong, viewBytes, viewRows, viewOutcome, tidyRows, tidyOutcome}
-use Rattle.views.specs.Steps.{viewFrom}
+use Rattle.slices.specs.Refusals.{chunkTooLong}
+use Rattle.views.specs.Calls.{maxTidied, tidiedTooLong, viewBytes, viewRows, viewOutcome, tidyRows, tidyOutcome}
+use Rattle.views.specs.Inner.{viewFrom}
 use Rattle.views.proofs.Laws.ViewFrom.{viewFrom-view, viewFrom-tidied}
-use Rattle.slices.specs.declared.Refusal.{Refusal}
+use Rattle.outcomes.specs.declared.Refusal.{Refusal}
 use Rattle.slices.specs.declared.Checked.the-variants.{Accepted, Refused}
-
--- a refused list's rows refuse, an accepted one's let through the rows behind them
-module _ {A : Type 0} (bs : List ℕ) (rest : List Row) (o : Outcome A) where
-  pub list-stops : (r : Refusal) → checked (checkOutcome bs) ≡ Refused r → firstOf (listRows bs ++ rest) o ≡ refused r
-  list-stops r h = firstOf-append (listRows bs) rest o ∙ check-stops bs (firstOf rest o) r h
-
-  pub list-lets : (n : ℕ) → checked (checkOutcome bs) ≡ Accepted n → firstOf (listRows bs ++ rest) o ≡ firstOf rest o
-  list-lets n h = firstOf-append (listRows bs) rest o ∙ check-lets bs (firstOf rest o) n h
 
 -- ---- view
 

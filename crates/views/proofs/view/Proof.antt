@@ -4,7 +4,7 @@ use denote.Ref.{now}
 use Rattle.slices.specs.Limits.{chunk}
 use Rattle.slices.specs.Refusals.{checkOutcome, checked}
 use Rattle.slices.specs.declared.Checked.the-variants.{Accepted}
-use Rattle.slices.proofs.Laws.Outcome.{answers-refused, answers-refusal, answers-as}
+use Rattle.outcomes.proofs.Laws.Answers.{answers-refused, answers-refusal, answers-as}
 use Rattle.slices.proofs.Laws.Refusals.{check-accepts}
 use Rattle.views.proofs.Laws.Calls.{view-7, view-refused, view-accepted}
 use borrow.Author.Needs.{needs}

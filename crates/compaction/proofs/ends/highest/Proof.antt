@@ -8,8 +8,9 @@ use Rattle.slices.specs.Limits.{recordSize}
 use Rattle.slices.specs.Passes.{Passes}
 use Rattle.slices.specs.Record.{count}
 use Rattle.slices.proofs.Laws.Record.{records-at}
-use Rattle.compaction.specs.Steps.{highest}
-use Rattle.compaction.proofs.Laws.Scan.{recordsLeft, left-all, highest-none, highest-back}
+use Rattle.compaction.specs.Inner.{highest}
+use Rattle.slices.proofs.Laws.Left.{recordsLeft, left-all}
+use Rattle.compaction.proofs.Laws.Scan.{highest-none, highest-back}
 use Rattle.compaction.proofs.ends.highest.Statement.{statement}
 use Rattle.compaction.proofs.ends.highest.Tie as tie
 

@@ -6,8 +6,9 @@ use mathlib.Core.Path.{_≡_, ap, _∙_}
 use lib.ListN.{length}
 use Rattle.slices.specs.Limits.{recordSize, chunk}
 use Rattle.slices.specs.Record.{count}
-use Rattle.compaction.specs.Steps.{lowest}
-use Rattle.compaction.proofs.Laws.Scan.{recordsLeft, left-all, lowest-none, lowest-back}
+use Rattle.compaction.specs.Inner.{lowest}
+use Rattle.slices.proofs.Laws.Left.{recordsLeft, left-all}
+use Rattle.compaction.proofs.Laws.Scan.{lowest-none, lowest-back}
 use Rattle.compaction.proofs.ends.lowest.Statement.{statement}
 use Rattle.compaction.proofs.ends.lowest.Tie as tie
 

@@ -3,7 +3,7 @@ use native.Mathlib.Omega.{arith}
 use mathlib.Core.Path.{ap, _∙_}
 use denote.Ref.{now}
 use Rattle.codec.specs.Splice.{splice}
-use Rattle.compaction.proofs.Laws.Parts.{rest-whole}
+use Rattle.codec.proofs.Laws.All.{rest-whole}
 use Rattle.compaction.proofs.Laws.Delivery.{put-behind}
 use borrow.Author.Needs.{needs}
 use Rattle.compaction.proofs.new_list.write_list.Statement.{statement}

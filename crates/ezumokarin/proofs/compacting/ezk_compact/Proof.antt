@@ -21,7 +21,7 @@ same-length-2 c = search needs
 returns : tie.Need-returns
 returns c =
     let a = c .before .before .before .before .before .compact .ensures in
-    (c .of-compacted .ensures ∙ ap plainCompacted (a .answers) ∙ plain-both _, (a .leaves-plan, a .leaves-list))
+    (c .of-compacted .ensures ∙ ap plainCompacted (a .answers) ∙ plain-both _, (a .leaves .0, a .leaves .1 .0))
 
 pub ezk-compact-spec : {M : Type 1} → statement M
 ezk-compact-spec =

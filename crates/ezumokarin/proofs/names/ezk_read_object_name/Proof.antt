@@ -1,6 +1,6 @@
 -- `ezumokarin::names::ezk_read_object_name` meets its contract: it passes the answer on. Assumes nothing.
 use mathlib.Core.Path.{ap, _∙_}
-use Rattle.objects.specs.declared.ObjectName.{ObjectName}
+use Rattle.names.specs.declared.ObjectName.{ObjectName}
 use Rattle.ezumokarin.specs.Names.{plainObject}
 use Rattle.ezumokarin.proofs.Laws.{plain-object}
 use borrow.Author.Needs.{needs}

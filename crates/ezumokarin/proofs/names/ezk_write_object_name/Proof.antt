@@ -18,7 +18,7 @@ same-length c = search needs
 returns : tie.Need-returns
 returns c =
     let a = c .before .before .before .write-object-name .ensures in
-    (c .of-answer .ensures ∙ ap plainAnswer (a .answers) ∙ plain-wrote _, a .leaves)
+    (c .of-answer .ensures ∙ ap plainAnswer (a .answers) ∙ plain-wrote _, a .leaves .0)
 
 pub ezk-write-object-name-spec : {M : Type 1} → statement M
 ezk-write-object-name-spec =

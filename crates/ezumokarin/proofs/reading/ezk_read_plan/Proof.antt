@@ -18,7 +18,7 @@ same-length c = search needs
 returns : tie.Need-returns
 returns c =
     let a = c .before .before .before .read-plan .ensures in
-    (c .of-answer .ensures ∙ ap plainAnswer (a .answers) ∙ plain-wrote _, a .leaves)
+    (c .of-answer .ensures ∙ ap plainAnswer (a .answers) ∙ plain-wrote _, a .leaves .0)
 
 pub ezk-read-plan-spec : {M : Type 1} → statement M
 ezk-read-plan-spec = tie.close (tie.spec read-plan-requires of-answer-requires same-length returns)

@@ -5,7 +5,7 @@ use mathlib.Core.Path.{ap}
 use denote.Ref.{now}
 use Rattle.codec.proofs.Laws.Fixed.{length-bigEndian}
 use Rattle.codec.proofs.Laws.Splice.{splices-4}
-use Rattle.plans.specs.Steps.{encodeObject}
+use Rattle.plans.specs.Inner.{encodeObject}
 use borrow.Author.Needs.{needs}
 use Rattle.plans.proofs.pieces.write_object.Statement.{statement}
 use Rattle.plans.proofs.pieces.write_object.Tie as tie

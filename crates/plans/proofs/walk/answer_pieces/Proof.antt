@@ -5,7 +5,8 @@ use native.Mathlib.Omega.{arith}
 use mathlib.Core.Path.{sym, ap, _∙_}
 use denote.Ref.{now}
 use Rattle.slices.specs.Record.{records}
-use Rattle.slices.proofs.Laws.Outcome.{short-refused, short-done, answers-refusal, answers-done}
+use Rattle.outcomes.proofs.Laws.Outcome.{short-refused, short-done}
+use Rattle.outcomes.proofs.Laws.Answers.{answers-refusal, answers-done}
 use Rattle.plans.specs.Piece.{pieceSize, encodePieces}
 use Rattle.plans.specs.Plan.{pieces}
 use Rattle.plans.proofs.Laws.Pieces.{length-encodePieces}

@@ -1,12 +1,10 @@
 -- `plans::walk::count_pieces` meets its contract. The invariant: the pieces before p are counted. Assumes nothing.
 use Prim.Native.Nat.{_-_}
 use native.Mathlib.Omega.{arith}
-use mathlib.Core.Path.{refl}
 use Rattle.slices.specs.Record.{records}
-use Rattle.views.proofs.Laws.Loops.{Counted, counted-start, counted-more, counted-end}
-use Rattle.plans.specs.Plan.{pieces}
-use Rattle.plans.specs.Steps.{piecesLeft}
-use Rattle.plans.proofs.Laws.Walk.{left-more, left-none}
+use Rattle.runs.proofs.Laws.Loops.{Counted, counted-start, counted-more, counted-end}
+use Rattle.plans.specs.Inner.{piecesLeft}
+use Rattle.plans.proofs.Laws.Walk.{left-more, left-none, left-all}
 use Rattle.plans.proofs.walk.count_pieces.Statement.{statement}
 use Rattle.plans.proofs.walk.count_pieces.Tie as tie
 
@@ -33,11 +31,10 @@ loop-less c = omega arith
 loop-again : tie.Need-loop-again Inv-loop μ-loop
 loop-again c =
     let l = c .piece-at .ensures in
-    counted-more _ _ _ _ _ _ (c .before .before .loop .inv) (l .some) (l .inside) _ (left-more _ _ _ _ _ _ _ _ l refl)
+    counted-more _ _ _ _ _ _ (c .before .before .loop .inv) (l .some) (l .inside) _ (left-more _ _ _ _ _ _ _ l)
 
 returns : tie.Need-returns Inv-loop μ-loop
-unfolding pieces piecesLeft
-returns c = counted-end _ _ _ _ _ (c .before .loop .inv) (left-none _ _ _ _ _ (c .loop-test .left))
+returns c = rw left-all at counted-end _ _ _ _ _ (c .before .loop .inv) (left-none _ _ _ _ _ (c .loop-test .left))
 
 pub count-pieces-spec : {M : Type 1} → statement M
 count-pieces-spec =

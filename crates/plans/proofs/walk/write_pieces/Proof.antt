@@ -4,17 +4,17 @@ use native.Mathlib.Nat.{le-refl}
 use native.Mathlib.Omega.{arith}
 use mathlib.Core.Path.{refl}
 use Rattle.slices.specs.Record.{records}
-use Rattle.views.proofs.Laws.Loops.{Written, written-start, written-room, written-more, written-end}
-use Rattle.plans.specs.Piece.{encodePiece, encodePieces}
+use Rattle.runs.proofs.Laws.Loops.{Filled, filled-start, filled-room, filled-more, filled-end}
+use Rattle.plans.specs.Piece.{encodeRun, encodePieces}
 use Rattle.plans.specs.Plan.{pieces}
-use Rattle.plans.specs.Steps.{piecesLeft}
-use Rattle.plans.proofs.Laws.Pieces.{length-encodePiece}
+use Rattle.plans.specs.Inner.{piecesLeft}
+use Rattle.plans.proofs.Laws.Pieces.{length-encodeRun}
 use Rattle.plans.proofs.Laws.Walk.{left-more, left-none}
 use Rattle.plans.proofs.walk.write_pieces.Statement.{statement}
 use Rattle.plans.proofs.walk.write_pieces.Tie as tie
 
 abbrev Inv-loop : tie.InvT-loop
-Inv-loop list from end block out₀ p₀ to₀ out p to = (from ≤ p) × Written (piecesLeft block (records list) from end) from end encodePiece out₀ out p to
+Inv-loop list from end block out₀ p₀ to₀ out p to = (from ≤ p) × Filled (piecesLeft block (records list) from end) from end encodeRun out₀ out p to
 
 abbrev μ-loop : tie.MeasureT-loop
 μ-loop list from end block out₀ p₀ to₀ out p to = end - p
@@ -23,7 +23,7 @@ loop-holds : tie.Need-loop-holds Inv-loop μ-loop
 unfolding encodePieces pieces piecesLeft
 loop-holds c =
     let start = c .before .before in
-    (le-refl _, written-start _ _ _ _ _ (start .pre .1 .0) (start .pre .1 .1 .1))
+    (le-refl _, filled-start _ _ _ _ _ (start .pre .1 .0) (start .pre .1 .1 .1))
 
 piece-at-requires : tie.Need-piece-at-requires Inv-loop μ-loop
 piece-at-requires c κs =
@@ -44,7 +44,7 @@ write-piece-requires c κs =
     let found = c .before .before in
     let l = found .piece-at .ensures in
     let i = found .before .before .loop .inv in
-    written-room _ _ _ _ _ _ _ _ _ (i .1) (l .inside) _ _ (length-encodePiece _) (left-more _ _ _ _ _ _ _ _ l refl)
+    filled-room _ _ _ _ _ _ _ _ _ (i .1) (l .inside) _ _ (length-encodeRun _) (left-more _ _ _ _ _ _ _ l)
 
 add-to : tie.Need-add-to Inv-loop μ-loop
 add-to c = omega arith
@@ -59,14 +59,14 @@ loop-again c =
     let found = made .before .before in
     let l = found .piece-at .ensures in
     let i = found .before .before .loop .inv in
-    (omega arith, written-more _ _ _ _ _ _ _ _ _ (i .1) (l .inside) _ _ (length-encodePiece _) (left-more _ _ _ _ _ _ _ _ l (made .piece-of .ensures)) _ (put .write-piece .ensures))
+    (omega arith, filled-more _ _ _ _ _ _ _ _ _ (i .1) (l .inside) _ _ (length-encodeRun _) (left-more _ _ _ _ _ _ _ l) _ (put .write-piece .ensures))
 
 same-length : tie.Need-same-length Inv-loop μ-loop
 same-length c = c .before .loop .inv .1 .same
 
 returns : tie.Need-returns Inv-loop μ-loop
 unfolding encodePieces pieces piecesLeft
-returns c = written-end _ _ _ _ _ _ _ _ (c .before .loop .inv .1) (left-none _ _ _ _ _ (c .loop-test .left))
+returns c = filled-end _ _ _ _ _ _ _ _ (c .before .loop .inv .1) (left-none _ _ _ _ _ (c .loop-test .left))
 
 pub write-pieces-spec : {M : Type 1} → statement M
 write-pieces-spec =

@@ -6,11 +6,12 @@ use mathlib.Core.Path.{_≡_, sym, ap, _∙_}
 use denote.Ref.{now}
 use Rattle.slices.specs.Record.{count}
 use Rattle.slices.specs.Refusals.{checkOutcome, checked}
-use Rattle.slices.specs.Steps.{fault}
+use Rattle.slices.specs.Inner.{fault}
 use Rattle.slices.specs.declared.Checked.the-variants.{Refused}
 use Rattle.slices.proofs.Laws.Refusals.{checkFrom, check-1, check-2, check-start, check-here, check-next, check-end}
 use Rattle.slices.proofs.check.check_list.Statement.{statement}
 use Rattle.slices.proofs.check.check_list.Tie as tie
+use Rattle.outcomes.specs.Answers.{answerOf}
 
 abbrev Inv-loop : tie.InvT-loop
 Inv-loop list n i₀ i = (i ≤ n) × (checkOutcome list ≡ checkFrom list i)
@@ -22,7 +23,7 @@ refusal-requires : tie.Need-refusal-requires Inv-loop μ-loop
 refusal-requires c κs = tt
 
 returns : tie.Need-returns Inv-loop μ-loop
-unfolding checked
+unfolding answerOf
 returns c =
     let start = c .before .before .before in
     rw (check-1 (now (start .args .list)) (c .before .if1 .taken)) (ap Refused (c .refusal .ensures))
@@ -31,7 +32,7 @@ refusal-requires-2 : tie.Need-refusal-requires-2 Inv-loop μ-loop
 refusal-requires-2 c κs = tt
 
 returns-2 : tie.Need-returns-2 Inv-loop μ-loop
-unfolding checked count
+unfolding answerOf count
 returns-2 c =
     let start = c .before .before .before .before in
     rw (check-2 (now (start .args .list)) (c .before .before .if1 .left) (c .before .if2 .taken)) (ap Refused (c .refusal2 .ensures))
@@ -47,7 +48,7 @@ check-record-requires : tie.Need-check-record-requires Inv-loop μ-loop
 check-record-requires c κs = tt
 
 returns-3 : tie.Need-returns-3 Inv-loop μ-loop
-unfolding checked count
+unfolding answerOf count
 returns-3 c =
     let read = c .before .before in
     let e = c .before .check-record .ensures ∙ ap fault (read .read-record .ensures) in
@@ -67,7 +68,7 @@ loop-again c =
     (omega arith, read .before .before .loop .inv .1 ∙ check-next _ _ (read .before .loop-test .taken) (sym e ∙ c .if3 .left))
 
 returns-4 : tie.Need-returns-4 Inv-loop μ-loop
-unfolding checked count
+unfolding answerOf count
 returns-4 c = rw (c .before .loop .inv .1, check-end _ _ (c .loop-test .left))
 
 pub check-list-spec : {M : Type 1} → statement M

@@ -10,11 +10,8 @@ mul-at c = search needs
 read-pos-requires : tie.Need-read-pos-requires
 read-pos-requires c κs = search needs
 
-add-read-be64 : tie.Need-add-read-be64
-add-read-be64 c = search needs
-
-read-be64-requires : tie.Need-read-be64-requires
-read-be64-requires c κs = search needs
+read-id-requires : tie.Need-read-id-requires
+read-id-requires c κs = search needs
 
 add-read-be32 : tie.Need-add-read-be32
 add-read-be32 c = search needs
@@ -41,8 +38,7 @@ read-record-spec =
     (tie.spec
     mul-at
     read-pos-requires
-    add-read-be64
-    read-be64-requires
+    read-id-requires
     add-read-be32
     read-be32-requires
     add-read-be32-2

@@ -6,9 +6,10 @@ use mathlib.Core.Path.{sym, ap, _∙_}
 use denote.Ref.{now}
 use Rattle.slices.specs.Limits.{recordSize}
 use Rattle.slices.specs.Record.{records, encodeAll}
-use Rattle.slices.proofs.Laws.Outcome.{short-refused, short-done, answers-refusal, answers-done}
+use Rattle.outcomes.proofs.Laws.Outcome.{short-refused, short-done}
+use Rattle.outcomes.proofs.Laws.Answers.{answers-refusal, answers-done}
 use Rattle.slices.proofs.Laws.Record.{length-encodeAll}
-use Rattle.views.specs.Steps.{viewFrom}
+use Rattle.views.specs.Inner.{viewFrom}
 use borrow.Author.Needs.{needs}
 use Rattle.views.proofs.walk.answer_runs.Statement.{statement}
 use Rattle.views.proofs.walk.answer_runs.Tie as tie

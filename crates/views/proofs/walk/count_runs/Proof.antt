@@ -4,9 +4,9 @@ use Prim.Native.Nat.{_-_, zero-le}
 use native.Mathlib.Omega.{arith}
 use mathlib.Core.Path.{refl}
 use Rattle.slices.specs.Record.{records}
-use Rattle.views.specs.Steps.{viewFrom}
+use Rattle.views.specs.Inner.{viewFrom}
 use Rattle.views.proofs.Laws.ViewFrom.{viewFrom-more, viewFrom-less, viewFrom-none}
-use Rattle.views.proofs.Laws.Loops.{Counted, counted-start, counted-more, counted-less, counted-end}
+use Rattle.runs.proofs.Laws.Loops.{Counted, counted-start, counted-more, counted-less, counted-end}
 use Rattle.views.proofs.walk.count_runs.Statement.{statement}
 use Rattle.views.proofs.walk.count_runs.Tie as tie
 

@@ -4,22 +4,22 @@ use Prim.Native.Nat.{_-_, zero-le}
 use native.Mathlib.Omega.{arith}
 use mathlib.Core.Path.{refl}
 use Rattle.slices.specs.Record.{encode, encodeAll, records}
-use Rattle.views.specs.Steps.{viewFrom}
+use Rattle.views.specs.Inner.{viewFrom}
 use Rattle.slices.proofs.Laws.Record.{length-encode}
 use Rattle.views.proofs.Laws.ViewFrom.{viewFrom-more, viewFrom-less, viewFrom-none}
-use Rattle.views.proofs.Laws.Loops.{Written, written-start, written-room, written-more, written-less, written-end}
+use Rattle.runs.proofs.Laws.Loops.{Filled, filled-start, filled-room, filled-more, filled-less, filled-end}
 use Rattle.views.proofs.walk.write_runs.Statement.{statement}
 use Rattle.views.proofs.walk.write_runs.Tie as tie
 
 abbrev Inv-loop : tie.InvT-loop
-Inv-loop list end all out₀ p₀ at₀ out p at = Written (λ q. viewFrom all (records list) q end) 0 end encode out₀ out p at
+Inv-loop list end all out₀ p₀ at₀ out p at = Filled (λ q. viewFrom all (records list) q end) 0 end encode out₀ out p at
 
 abbrev μ-loop : tie.MeasureT-loop
 μ-loop list end all out₀ p₀ at₀ out p at = end - p
 
 loop-holds : tie.Need-loop-holds Inv-loop μ-loop
 unfolding encodeAll
-loop-holds c = written-start _ _ _ _ _ zero-le (c .before .before .pre .1)
+loop-holds c = filled-start _ _ _ _ _ zero-le (c .before .before .pre .1)
 
 run-at-requires : tie.Need-run-at-requires Inv-loop μ-loop
 run-at-requires c κs = (c .before .before .before .before .pre .0, c .loop-test .taken)
@@ -38,7 +38,7 @@ write-record-requires c κs =
     let chosen = c .before .before in
     let run = chosen .before .before in
     let l = run .run-at .ensures in
-    written-room _ _ _ _ _ _ _ _ _ (run .before .before .loop .inv) (l .inside) _ _ (length-encode _) (viewFrom-more _ _ _ _ _ _ _ _ l (chosen .before .wanted .ensures) (chosen .if1 .taken) refl)
+    filled-room _ _ _ _ _ _ _ _ _ (run .before .before .loop .inv) (l .inside) _ _ (length-encode _) (viewFrom-more _ _ _ _ _ _ _ _ l (chosen .before .wanted .ensures) (chosen .if1 .taken) refl)
 
 add-at : tie.Need-add-at Inv-loop μ-loop
 add-at c = omega arith
@@ -53,7 +53,7 @@ loop-again c =
     let run = chosen .before .before in
     let l = run .run-at .ensures in
     let v = viewFrom-more _ _ _ _ _ _ _ _ l (chosen .before .wanted .ensures) (chosen .if1 .taken) (put .before .as-record .ensures) in
-    written-more _ _ _ _ _ _ _ _ _ (run .before .before .loop .inv) (l .inside) _ _ (length-encode _) v _ (put .write-record .ensures)
+    filled-more _ _ _ _ _ _ _ _ _ (run .before .before .loop .inv) (l .inside) _ _ (length-encode _) v _ (put .write-record .ensures)
 
 loop-less-2 : tie.Need-loop-less-2 Inv-loop μ-loop
 loop-less-2 c = omega arith
@@ -62,14 +62,14 @@ loop-again-2 : tie.Need-loop-again-2 Inv-loop μ-loop
 loop-again-2 c =
     let run = c .before .before in
     let l = run .run-at .ensures in
-    written-less _ _ _ _ _ _ _ _ _ (run .before .before .loop .inv) (l .inside) (viewFrom-less _ _ _ _ _ _ _ l (c .before .wanted .ensures) (c .if1 .left))
+    filled-less _ _ _ _ _ _ _ _ _ (run .before .before .loop .inv) (l .inside) (viewFrom-less _ _ _ _ _ _ _ l (c .before .wanted .ensures) (c .if1 .left))
 
 same-length : tie.Need-same-length Inv-loop μ-loop
 same-length c = c .before .loop .inv .same
 
 returns : tie.Need-returns Inv-loop μ-loop
 unfolding encodeAll
-returns c = written-end _ _ _ _ _ _ _ _ (c .before .loop .inv) (viewFrom-none _ _ _ _ (c .loop-test .left))
+returns c = filled-end _ _ _ _ _ _ _ _ (c .before .loop .inv) (viewFrom-none _ _ _ _ (c .loop-test .left))
 
 pub write-runs-spec : {M : Type 1} → statement M
 write-runs-spec =

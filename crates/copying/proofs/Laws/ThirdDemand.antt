@@ -1,0 +1,43 @@
+-- The third demand holds. Assumes nothing.
+use Prim.Native.Nat.{ℕ}
+use mathlib.Core.Path.{_≡_}
+use mathlib.Core.List.{List, []}
+use Rattle.slices.specs.Record.{records}
+use Rattle.slices.specs.Cover.{cover, over}
+use Rattle.slices.proofs.Laws.Cover.{cover-append, over-assoc, over-nothing-left, over-nothing-right}
+use Rattle.slices.proofs.Laws.Record.{records-back}
+use Rattle.views.specs.View.{tidied, tidiedBytes}
+use Rattle.views.proofs.Laws.Tidied.{cover-replaced, tidied-same-bytes, tidied-fits}
+use Rattle.copying.specs.ThirdDemand.{Sound, ThirdDemand}
+use Rattle.copying.proofs.Laws.Compaction.{compaction-law, old-list-reads}
+use Rattle.copying.proofs.Laws.Answered.{tidied-wrote, compacted-wrote}
+use Rattle.slices.specs.declared.Record.{Record}
+
+-- the empty list, laid over another or under it
+empty-over : (rs : List Record) (p : ℕ) → over (cover [] p) (cover rs p) ≡ cover rs p
+unfolding cover
+empty-over rs p = over-nothing-left (cover rs p)
+
+empty-under : (rs : List Record) (p : ℕ) → over (cover rs p) (cover [] p) ≡ cover rs p
+unfolding cover
+empty-under rs p = over-nothing-right (cover rs p)
+
+tidied-records : (rs : List Record) → Sound rs → records (tidiedBytes rs) ≡ tidied rs
+unfolding tidiedBytes
+tidied-records rs h = records-back (tidied rs) (tidied-fits rs (h .pass) (h .fit))
+
+pub third-demand : ThirdDemand
+third-demand =
+    record {
+      split = cover-append;
+      associative = over-assoc;
+      empty-over = empty-over;
+      empty-under = empty-under;
+      replaced = λ xs ys zs h p. cover-replaced xs ys zs (h .pass) p;
+      same-bytes = λ xs ys h k. tidied-same-bytes xs ys (h .pass) (k .pass) (h .fit) (k .fit);
+      tidied-records = tidied-records;
+      tidied-wrote = tidied-wrote;
+      compacted-wrote = compacted-wrote;
+      compacted = λ B rs k id w st ys s p h. compaction-law B rs k id w st ys p h;
+      old-reads = λ B rs k id w st p h. old-list-reads B rs k id w st p;
+    }

@@ -1,0 +1,19 @@
+-- The limits of paper 01 on object names ("Blocks, names, keys"), each in this one place. Assumes nothing.
+use Prim.Native.Nat.{ℕ, _+_, _*_}
+use Rattle.codec.specs.Decimal.{maxDigits}
+
+-- "block 0 to 1,023"
+abbrev pub maxBlock : ℕ
+maxBlock = 1023
+
+-- "block length 1 to 16,777,216"
+abbrev pub maxLength : ℕ
+maxLength = 16777216
+
+-- a volume name has "1 to 63 bytes"
+abbrev pub maxVolume : ℕ
+maxVolume = 63
+
+-- the room that an object name takes at most: `chunks/` and four words of one byte, five numbers
+abbrev pub nameRoom : ℕ
+nameRoom = 11 + 5 * maxDigits

@@ -1,0 +1,90 @@
+// The part of a name that says which object it is: all of a short name, and what follows the volume name of a full one.
+use crate::ObjectName;
+use crate::limits;
+use codec::scan::Step;
+use outcomes::refusals;
+use texts::MAX_NUMBER;
+use texts::scan;
+use texts::text;
+ghost use mathlib.Core.Path.{_≡_};
+ghost use mathlib.Core.List.{[]};
+ghost use Prim.Native.Nat.{_+_, _*_, _≤_, min, max};
+ghost use lib.ListN.{length};
+ghost use Rattle.codec.specs.Splice.{Puts};
+ghost use Rattle.texts.specs.Parts.{onward, scan};
+ghost use Rattle.names.specs.Limits.{nameRoom};
+ghost use Rattle.texts.specs.Calls.{reading};
+ghost use Rattle.names.specs.Names.{nameForm, objectOf, objectAnswer, objectAllowed, objectName};
+
+// The largest number up to most whose thousandth part is at most q.
+fn upper(q: u64, most: u64) -> u64
+    ensures { λ r. ⌜ r ≡ min (q * 1000 + 999) most ⌝ }
+{
+    if most / 1000 <= q {
+        return most;
+    }
+    q * 1000 + 999
+}
+
+fn positive(n: u64) -> u64
+    ensures { λ r. ⌜ r ≡ max 1 n ⌝ }
+{
+    if n < 1 { 1 } else { n }
+}
+
+// The object that the text names from a step on.
+pub(crate) fn read(text: &[u8], prior: Step) -> ObjectName
+    ensures { λ r. ⌜ r ≡ objectAnswer (reading objectOf (onward prior (λ i v. scan nameForm (now (text .entry)) [] i))) ⌝ }
+{
+    let opened = scan::word_after(text, prior, b"chunks/");
+    let first = scan::number_after(text, opened, 0, MAX_NUMBER / 1000 / 1000);
+    let slash = scan::word_after(text, first, b"/");
+    let millions = scan::value_of(first);
+    let top = upper(millions, MAX_NUMBER / 1000);
+    let second = scan::number_after(text, slash, millions * 1000, top);
+    let slash2 = scan::word_after(text, second, b"/");
+    let thousands = scan::value_of(second);
+    let least = positive(thousands * 1000);
+    let id = scan::number_after(text, slash2, least, upper(thousands, MAX_NUMBER));
+    let bar = scan::word_after(text, id, b"_");
+    let block = scan::number_after(text, bar, 0, limits::MAX_BLOCK);
+    let bar2 = scan::word_after(text, block, b"_");
+    let length = scan::number_after(text, bar2, 1, limits::MAX_LENGTH);
+    match scan::end_after(text, length) {
+        Step::Next { at: _, value: _ } => ObjectName::Block {
+            id: scan::value_of(id),
+            block: scan::value_of(block),
+            length: scan::value_of(length),
+        },
+        Step::Stop(_) => ObjectName::Refused(refusals::refusal(refusals::NOT_OF_FORM)),
+    }
+}
+
+// Whether the numbers are those of an object that has a name.
+pub(crate) fn allowed(id: u64, block: u64, length: u64) -> bool
+    ensures { λ r. ⌜ r ≡ objectAllowed id block length ⌝ }
+{
+    if id < 1 {
+        return false;
+    }
+    if limits::MAX_BLOCK < block {
+        return false;
+    }
+    if length < 1 {
+        return false;
+    }
+    length <= limits::MAX_LENGTH
+}
+
+// Puts the name of an object into a line.
+pub(crate) fn put(line: &mut [u8], at: usize, id: u64, block: u64, size: u64) -> usize
+    requires { ⌜ at + nameRoom ≤ length (now line) ⌝ }
+    ensures { λ r. ⌜ Puts (now (line .entry)) at (objectName id block size) nameRoom r (now (line .exit)) ⌝ }
+{
+    let a = text::put_word(line, at, b"chunks/");
+    let b = text::put_number_word(line, a, id / 1000 / 1000, b"/");
+    let c = text::put_number_word(line, b, id / 1000, b"/");
+    let d = text::put_number_word(line, c, id, b"_");
+    let e = text::put_number_word(line, d, block, b"_");
+    text::put_number(line, e, size)
+}

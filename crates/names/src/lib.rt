@@ -1,0 +1,89 @@
+// Object names: short ones, and full ones with a volume name in front.
+mod block;
+mod limits;
+mod volume;
+
+use outcomes::Answer;
+use outcomes::Refusal;
+use outcomes::refusals;
+use texts::scan;
+use texts::text;
+ghost use mathlib.Core.Path.{_≡_};
+ghost use Prim.Native.Nat.{_+_, _≤_};
+ghost use lib.ListN.{length};
+ghost use Rattle.codec.specs.Splice.{Puts};
+ghost use Rattle.outcomes.specs.Answers.{Answers};
+ghost use Rattle.names.specs.Limits.{nameRoom};
+ghost use Rattle.names.specs.Names.{readObject, objectAnswer, writeObject, readFull, fullAnswer, volumePart, writeFull, fullName};
+
+// What an object name names: a block of a slice, or the refusal.
+pub enum ObjectName {
+    Block { id: u64, block: u64, length: u64 },
+    Refused(Refusal),
+}
+
+// Writes the name of an object.
+pub fn write_object_name(id: u64, block: u64, length: u64, out: &mut [u8]) -> Answer
+    ensures { λ r. ⌜ Answers (writeObject id block length (lib.ListN.length (now (out .entry)))) (now (out .entry)) r (now (out .exit)) ⌝ }
+{
+    if block::allowed(id, block, length) {
+        let mut line = [0u8; limits::NAME_ROOM];
+        let n = block::put(&mut line, 0, id, block, length);
+        outcomes::deliver(&line[..n], out)
+    } else {
+        Answer::Refused(refusals::refusal(refusals::NOT_OF_FORM))
+    }
+}
+
+// The object that a short name names.
+pub fn read_object_name(name: &[u8]) -> ObjectName
+    ensures { λ r. ⌜ r ≡ objectAnswer (readObject (now (name .entry))) ⌝ }
+{
+    block::read(name, scan::start())
+}
+
+// Puts a full name into a line.
+fn put_full(line: &mut [u8], volume: &[u8], id: u64, block: u64, size: u64) -> usize
+    requires { ⌜ length (now volume) + (1 + nameRoom) ≤ length (now line) ⌝ }
+    ensures { λ r. ⌜ Puts (now (line .entry)) 0 (fullName (now (volume .entry)) id block size) (length (now (volume .entry)) + (1 + nameRoom)) r (now (line .exit)) ⌝ }
+{
+    let a = text::put_word(line, 0, volume);
+    let b = text::put_word(line, a, b"/");
+    block::put(line, b, id, block, size)
+}
+
+// Writes the full name of an object: its volume's name, a slash and its short name.
+pub fn write_full_name(volume: &[u8], id: u64, block: u64, length: u64, out: &mut [u8]) -> Answer
+    ensures { λ r. ⌜ Answers (writeFull (now (volume .entry)) id block length (lib.ListN.length (now (out .entry)))) (now (out .entry)) r (now (out .exit)) ⌝ }
+{
+    if !volume::allowed(volume) {
+        return Answer::Refused(refusals::refusal(refusals::NOT_OF_FORM));
+    }
+    if !block::allowed(id, block, length) {
+        return Answer::Refused(refusals::refusal(refusals::NOT_OF_FORM));
+    }
+    let mut line = [0u8; limits::FULL_ROOM];
+    let n = put_full(&mut line, volume, id, block, length);
+    outcomes::deliver(&line[..n], out)
+}
+
+// The object that a full name names.
+pub fn read_full_name(name: &[u8]) -> ObjectName
+    ensures { λ r. ⌜ r ≡ fullAnswer (readFull (now (name .entry))) ⌝ }
+{
+    let front = volume::read(name);
+    let slash = scan::word_after(name, front, b"/");
+    block::read(name, slash)
+}
+
+// The volume name of a full name, as a part of it; an empty part where the name is refused.
+pub fn volume_of(name: &[u8]) -> &[u8]
+    ensures { λ r. ⌜ now r ≡ volumePart (readFull (now (name .entry))) ⌝ }
+{
+    let named = read_full_name(name);
+    if let ObjectName::Refused(_) = named {
+        return &name[..0];
+    }
+    let n = volume::run(name);
+    &name[..n]
+}

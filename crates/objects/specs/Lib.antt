@@ -1,9 +1,0 @@
-pub mod Limits
-pub mod Words
-pub mod Parts
-pub mod Steps
-pub mod Written
-pub mod Inverse
-pub mod Keys
-pub mod Volume
-pub mod Names

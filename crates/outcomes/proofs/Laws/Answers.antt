@@ -1,0 +1,67 @@
+-- Laws of answers: what calls return and leave, case by case, and what an answer tells. Assumes nothing.
+use Prim.Native.Nat.{ℕ}
+use mathlib.Core.Path.{_≡_, refl, sym, ap, _∙_}
+use mathlib.Core.List.{List, [], _∷_}
+use native.Mathlib.Omega.{arith}
+use lib.ListN.{length, take}
+use Rattle.codec.specs.All.{All}
+use Rattle.codec.specs.Splice.{splice}
+use Rattle.codec.proofs.Laws.Splice.{take-splice}
+use Rattle.outcomes.specs.Outcome.{OutcomeOf, refused, done, Outcome}
+use Rattle.outcomes.specs.Answers.{answerOf, leftIn, Lent, lent, Replies, howMany, Answers, Written}
+use Rattle.outcomes.specs.declared.Refusal.{Refusal}
+use Rattle.outcomes.specs.declared.Answer.{Answer}
+use Rattle.outcomes.specs.declared.Answer.the-variants.{Wrote, Refused}
+
+-- ---- any number of buffers
+
+module _ {R A X : Type 0} {refuse : R → X} {say : A → X} where
+  -- a refusal leaves every buffer as it was
+  pub replies-refused : (o : OutcomeOf R A) (r q : R) (buffers : List (Lent A)) → o ≡ refused q → r ≡ q
+      → All (λ (b : Lent A). b .after ≡ b .before) buffers → Replies refuse say o buffers (refuse r)
+  unfolding answerOf leftIn
+  replies-refused o r q buffers e h k = rw e (record { answers = ap refuse h; leaves = k })
+
+  pub replies-done : (o : OutcomeOf R A) (a : A) (x : X) (buffers : List (Lent A)) → o ≡ done a → x ≡ say a
+      → All (λ (b : Lent A). b .after ≡ splice (b .before) 0 (b .bytes a)) buffers → Replies refuse say o buffers x
+  unfolding answerOf leftIn
+  replies-done o a x buffers e h k = rw e (record { answers = h; leaves = k })
+
+  pub replies-as : (o p : OutcomeOf R A) (x : X) (buffers : List (Lent A)) → o ≡ p → Replies refuse say p buffers x → Replies refuse say o buffers x
+  replies-as o p x buffers e h = rw e h
+
+-- the same answer in other words
+pub answer-as : {R A X Y : Type 0} (f : X → Y) (refuse : R → X) (say : A → X) (refuse' : R → Y) (say' : A → Y) → ((r : R) → f (refuse r) ≡ refuse' r)
+    → ((a : A) → f (say a) ≡ say' a) → (o : OutcomeOf R A) → f (answerOf refuse say o) ≡ answerOf refuse' say' o
+unfolding answerOf
+answer-as f refuse say refuse' say' h k (refused r) = h r
+answer-as f refuse say refuse' say' h k (done a) = k a
+
+-- ---- one buffer
+
+pub answers-refused : (o : Outcome (List ℕ)) (r : Refusal) (out : List ℕ) → o ≡ refused r → Answers o out (Refused r) out
+answers-refused o r out e = replies-refused o r r _ e refl (refl, tt)
+
+-- the same for a refusal that a call made
+pub answers-refusal : (o : Outcome (List ℕ)) (r q : Refusal) (out : List ℕ) → o ≡ refused q → r ≡ q → Answers o out (Refused r) out
+answers-refusal o r q out e h = replies-refused o r q _ e h (refl, tt)
+
+pub answers-as : (o p : Outcome (List ℕ)) (out : List ℕ) (a : Answer) (after : List ℕ) → o ≡ p → Answers p out a after → Answers o out a after
+answers-as o p out a after e h = replies-as o p a _ e h
+
+pub answers-done : (o : Outcome (List ℕ)) (bs out after : List ℕ) (n : ℕ) → o ≡ done bs → length bs ≡ n → after ≡ splice out 0 bs → Answers o out (Wrote n) after
+answers-done o bs out after n e h a = replies-done o bs (Wrote n) _ e (ap Wrote (sym h)) (a, tt)
+
+-- ---- what an answer tells
+
+pub said-refused : (o : Outcome (List ℕ)) (before after : List ℕ) (r : Refusal) → Answers o before (Refused r) after → o ≡ refused r
+unfolding answerOf
+said-refused (refused q) before after r a = let e : q ≡ r = cc (a .answers) in ap refused e
+said-refused (done bs) before after r a = let z : _≡_ {A = ℕ} 0 1 = cc (a .answers) in absurd (omega arith)
+
+pub said-howMany : (o : Outcome (List ℕ)) (before after : List ℕ) (n : ℕ) → Answers o before (Wrote n) after → Written o n after
+unfolding answerOf leftIn
+said-howMany (refused q) before after n a = let z : _≡_ {A = ℕ} 0 1 = cc (a .answers) in absurd (omega arith)
+said-howMany (done bs) before after n a =
+    let e : n ≡ length bs = cc (a .answers) in
+    record { bytes = bs; outcome = refl; counted = e; front = ap (take n) (a .leaves .0) ∙ take-splice before bs n e }

@@ -1,0 +1,42 @@
+-- Inner: what the steps of the code find. It serves the contracts of inner functions alone. Assumes nothing.
+use Prim.Native.Nat.{ℕ, _-_, _<_, _≤_}
+use mathlib.Core.Path.{_≡_}
+use mathlib.Core.List.{List, _++_, map}
+use Rattle.codec.specs.Fixed.{bigEndian}
+use Rattle.views.specs.Inner.{shift}
+use Rattle.plans.specs.Location.{location, locationAt, nextLocation, onward}
+use Rattle.plans.specs.Plan.{cutTo}
+use Rattle.slices.specs.declared.Record.{Record}
+use Rattle.slices.specs.declared.Source.{Source}
+use Rattle.slices.specs.declared.Source.the-variants.{Nothing, Zero, Byte}
+use Rattle.runs.specs.Runs.{Run, runs}
+use Rattle.runs.specs.Inner.{earlier}
+use Rattle.plans.specs.declared.Location.{Location}
+use Rattle.plans.specs.declared.Piece.{Piece}
+
+-- a byte of a slice lies inside it
+abbrev pub Inside : Source → Type 0
+Inside Nothing = Unit {0}
+Inside Zero = Unit {0}
+Inside (Byte i s o) = o < s
+
+-- r of the d positions from the source a on in its run lie in one block with it
+pub record InBlock (B : ℕ) (a : Source) (d r : ℕ) : Type 0 where
+  pub some : 0 < r
+  pub most : r ≤ d
+  pub onwards : (k : ℕ) → k < r → location B (shift a k) ≡ onward (location B a) k
+
+-- where in the store a piece lies: its object, and the place in the block
+unfoldable pub encodeObject : Piece → List ℕ
+encodeObject p = bigEndian 8 (p .id) ++ (bigEndian 4 (p .block) ++ (bigEndian 4 (p .length) ++ bigEndian 4 (p .at)))
+
+-- of the plan of the positions from `from` up to `end`, the runs from position p on
+unfoldable pub piecesLeft : ℕ → List Record → (from end p : ℕ) → List (Run Location)
+piecesLeft B rs from end p = map (earlier from) (runs nextLocation (locationAt B rs) p (end - p))
+
+-- a read of `count` bytes from `start`, for a chunk of l bytes, goes from `from` up to `end`
+pub record Cut (l start count from end : ℕ) : Type 0 where
+  pub order : from ≤ end
+  pub within : end ≤ l
+  pub size : end - from ≡ cutTo l start count
+  pub place : from < end → from ≡ start

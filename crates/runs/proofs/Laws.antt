@@ -1,0 +1,4 @@
+-- Laws of the definitions of specs/.
+pub mod Runs
+pub mod Walk
+pub mod Loops

@@ -1,0 +1,1 @@
+// Maximal runs of anything on positions: definitions and laws alone.

@@ -1,0 +1,6 @@
+pub mod Limits
+pub mod Words
+pub mod Parts
+pub mod Calls
+pub mod Inverse
+pub mod Inner
