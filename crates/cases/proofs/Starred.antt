@@ -8,10 +8,9 @@ use Rattle.slices.specs.Limits.{chunk}
 use Rattle.slices.specs.Cover.{covers, given, layer, over, cover}
 use Rattle.slices.specs.Record.{encode, encodeAll, decode, recordAt, recordsFrom, count, records}
 use Rattle.outcomes.specs.Outcome.{firstOf}
-use Rattle.slices.specs.Refusals.{notWhole, tooMany, pastChunk, tooLarge, zerosWithSlice, pastSlice, rowsFrom, listRows, checkOutcome}
+use Rattle.slices.specs.Refusals.{notWhole, tooMany, pastChunk, tooLarge, zerosWithSlice, pastSlice, rowsFrom, listRows, checkOutcome, chunkTooLong}
 use Rattle.runs.specs.Runs.{join, runs}
 use Rattle.views.specs.View.{next, viewRuns, asRecord, runRecord, view}
-use Rattle.slices.specs.Refusals.{chunkTooLong}
 use Rattle.views.specs.Calls.{viewBytes, viewRows, viewOutcome}
 use Rattle.codec.specs.Decimal.{decimal, digitOf}
 use Rattle.codec.specs.Scan.{decimalAt}

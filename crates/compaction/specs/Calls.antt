@@ -5,6 +5,7 @@ use mathlib.Core.List.{List, [], _∷_, _++_}
 use lib.Dec.{ltb, eqb}
 use lib.ListN.{length}
 use Rattle.slices.specs.Record.{records}
+use Rattle.slices.specs.Ids.{stands}
 use Rattle.outcomes.specs.Numbers as number
 use Rattle.outcomes.specs.Outcome.{Outcome, done, Row, row, firstOf, tooShort}
 use Rattle.outcomes.specs.Answers.{answerOf, lent, Replies}

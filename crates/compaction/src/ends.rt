@@ -5,73 +5,34 @@ use slices::RECORD;
 use slices::records;
 ghost use mathlib.Core.Path.{_≡_};
 ghost use mathlib.Core.Bool.{cond};
-ghost use Prim.Native.Nat.{_+_, _*_, _≤_, min, max};
+ghost use Prim.Native.Nat.{_+_, _≤_, min, max};
 ghost use lib.Dec.{eqb};
-ghost use lib.ListN.{length};
 ghost use Rattle.codec.specs.All.{All};
-ghost use Rattle.slices.specs.Limits.{recordSize};
+ghost use Rattle.slices.specs.Limits.{chunk};
 ghost use Rattle.slices.specs.Passes.{Passes};
-ghost use Rattle.slices.specs.Record.{recordAt, records};
-ghost use Rattle.compaction.specs.Inner.{lowest, highest, Ends};
+ghost use Rattle.slices.specs.Record.{records};
+ghost use Rattle.compaction.specs.Inner.{Ends};
 
-// The lower of a position and record i's first, if the record covers one.
-fn lower(list: &[u8], i: usize, low: u32) -> u32
-    requires { ⌜ i * recordSize + recordSize ≤ length (now list) ⌝ }
-    ensures { λ r. ⌜ r ≡ cond (eqb (recordAt (now (list .entry)) i .len) 0) low (min (recordAt (now (list .entry)) i .pos) low) ⌝ }
+// The lower of a position and a record's first, if the record covers one.
+fn lower(pos: u32, len: u32, low: u32) -> u32
+    ensures { λ r. ⌜ r ≡ cond (eqb len 0) low (min pos low) ⌝ }
 {
-    let len = records::read_len(list, i);
     if len == 0 {
         return low;
     }
-    let pos = records::read_pos(list, i);
-    if pos < low {
-        return pos;
-    }
-    low
+    if pos < low { pos } else { low }
 }
 
-// The first position that the records cover, or 64 MiB.
-fn lowest(list: &[u8]) -> u32
-    ensures { λ r. ⌜ r ≡ lowest (records (now (list .entry))) ⌝ }
+// The higher of a position and the one after a record's last, if the record covers one.
+fn higher(pos: u32, len: u32, high: u32) -> u32
+    requires { ⌜ pos + len ≤ chunk ⌝ }
+    ensures { λ r. ⌜ r ≡ cond (eqb len 0) high (max (pos + len) high) ⌝ }
 {
-    let mut i = list.len() / RECORD;
-    let mut low = CHUNK;
-    while 0 < i {
-        i -= 1;
-        low = lower(list, i, low);
-    }
-    low
-}
-
-// The higher of a position and the one after record i's last, if the record covers one.
-fn higher(list: &[u8], i: usize, high: u32) -> u32
-    requires { ⌜ i * recordSize + recordSize ≤ length (now list) ⌝ }
-    requires { ⌜ Passes (recordAt (now list) i) ⌝ }
-    ensures { λ r. ⌜ r ≡ cond (eqb (recordAt (now (list .entry)) i .len) 0) high (max (recordAt (now (list .entry)) i .pos + recordAt (now (list .entry)) i .len) high) ⌝ }
-{
-    let len = records::read_len(list, i);
     if len == 0 {
         return high;
     }
-    let end = records::read_pos(list, i) + len;
-    if high < end {
-        return end;
-    }
-    high
-}
-
-// The position after the last that the records cover, or 0.
-fn highest(list: &[u8]) -> u32
-    requires { ⌜ All Passes (records (now list)) ⌝ }
-    ensures { λ r. ⌜ r ≡ highest (records (now (list .entry))) ⌝ }
-{
-    let mut i = list.len() / RECORD;
-    let mut high = 0;
-    while 0 < i {
-        i -= 1;
-        high = higher(list, i, high);
-    }
-    high
+    let end = pos + len;
+    if high < end { end } else { high }
 }
 
 // From the first position that the records cover up to the last; none where they cover nothing.
@@ -79,10 +40,21 @@ pub(crate) fn span(list: &[u8]) -> Span
     requires { ⌜ All Passes (records (now list)) ⌝ }
     ensures { λ r. ⌜ Ends (records (now (list .entry))) (r .from) (r .end) ⌝ }
 {
-    let from = lowest(list);
-    if from == CHUNK {
+    let mut i = list.len() / RECORD;
+    let mut low = CHUNK;
+    let mut high = 0;
+    while 0 < i {
+        i -= 1;
+        let pos = records::read_pos(list, i);
+        let len = records::read_len(list, i);
+        low = lower(pos, len, low);
+        high = higher(pos, len, high);
+    }
+    if low == CHUNK {
         return Span { from: 0, end: 0 };
     }
-    let end = highest(list);
-    Span { from, end }
+    Span {
+        from: low,
+        end: high,
+    }
 }

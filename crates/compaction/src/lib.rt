@@ -4,13 +4,13 @@ mod ids;
 mod new_list;
 
 use blocks::block_allowed;
+use outcomes::Refusal;
+use outcomes::refusals;
 use plans::PIECE;
 use plans::walk;
 use slices::Checked;
 use slices::RECORD;
-use outcomes::Refusal;
 use slices::check;
-use outcomes::refusals;
 ghost use Prim.Native.Nat.{_<_, _≤_};
 ghost use lib.ListN.{length};
 ghost use Rattle.outcomes.specs.Outcome.{done, firstOf};

@@ -5,21 +5,24 @@ use mathlib.Core.Path.{_≡_}
 use mathlib.Core.Bool.{false}
 use mathlib.Core.Logic.{_↔_}
 use mathlib.Core.List.{List, [], _++_}
+use lib.ListN.{length}
 use Rattle.codec.specs.All.{All, Bytes}
+use Rattle.outcomes.specs.Answers.{Answers, Front}
 use Rattle.slices.specs.Limits.{chunk}
 use Rattle.slices.specs.Record.{Fits, records}
-use Rattle.slices.specs.Cover.{cover, over}
+use Rattle.slices.specs.Cover.{cover, over, SameCover}
 use Rattle.slices.specs.Passes.{Passes}
-use Rattle.outcomes.specs.Outcome.{done}
 use Rattle.views.specs.View.{tidied, tidiedBytes}
 use Rattle.views.specs.Calls.{tidyOutcome}
 use Rattle.blocks.specs.Blocks.{blockSizeBad}
 use Rattle.plans.specs.Store.{Store, reads}
 use Rattle.compaction.specs.Compaction.{planBytes, newListBytes}
-use Rattle.copying.specs.Copy.{copied}
-use Rattle.compaction.specs.Calls.{Both, tooFew, idInUse, compactOutcome}
+use Rattle.compaction.specs.Calls.{tooFew, idInUse, compactOutcome, Compacts}
+use Rattle.copying.specs.Copy.{Copied, copied}
 use Rattle.slices.specs.declared.Record.{Record}
 use Rattle.slices.specs.declared.Source.{Source}
+use Rattle.outcomes.specs.declared.Answer.the-variants.{Wrote}
+use Rattle.compaction.specs.declared.Compacted.the-variants as both
 
 -- the lists that it holds for: any number of records, also none, that are of 24 bytes and pass refusals 3 to 6
 pub record Sound (rs : List Record) : Type 0 where
@@ -44,21 +47,23 @@ pub record ThirdDemand : Type 0 where
   pub empty-under : (rs : List Record) (p : ℕ) → over (cover rs p) (cover [] p) ≡ cover rs p
   -- "Whichever run of records inside a list is replaced by its tidied run, and whatever stands before or after, every byte keeps its source."
   pub replaced : (xs ys zs : List Record) → Sound ys → (p : ℕ) → cover (xs ++ (tidied ys ++ zs)) p ≡ cover (xs ++ (ys ++ zs)) p
-  -- "Two lists tidy to the same bytes exactly when they have the same cover": "Two covers are the same when they give the same source at each of
-  -- the 67,108,864 positions."
-  pub same-bytes : (xs ys : List Record) → Sound xs → Sound ys → (tidiedBytes xs ≡ tidiedBytes ys) ↔ ((p : ℕ) → p < chunk → cover xs p ≡ cover ys p)
+  -- "Two lists tidy to the same bytes exactly when they have the same cover"
+  pub same-bytes : (xs ys : List Record) → Sound xs → Sound ys → (tidiedBytes xs ≡ tidiedBytes ys) ↔ SameCover xs ys
   -- "A list's tidied bytes are the records of its tidied list, one after the other;"
   pub tidied-records : (rs : List Record) → Sound rs → records (tidiedBytes rs) ≡ tidied rs
   -- "where the tidying call succeeds, they are the bytes it wrote, as many as it counted": of a list that is sound
-  pub tidied-wrote : (bs : List ℕ) → Bytes bs → (room : ℕ) (ws : List ℕ) → tidyOutcome bs room ≡ done ws → Sound (records bs) × (ws ≡ tidiedBytes (records bs))
+  pub tidied-wrote : (bs : List ℕ) → Bytes bs → (before after : List ℕ) (n : ℕ) → Answers (tidyOutcome bs (length before)) before (Wrote n) after
+      → Sound (records bs) × Front (tidiedBytes (records bs)) n after
   -- "Where the compaction call succeeds, the plan and the new list are the bytes it wrote": of a compaction that is allowed
-  pub compacted-wrote : (bs : List ℕ) → Bytes bs → (B k id planRoom listRoom : ℕ) → id < 2 ^ 64 → (w : Both)
-      → compactOutcome bs B k id planRoom listRoom ≡ done w
-      → Allowed B (records bs) k id × (w .plan ≡ planBytes B (records bs) k) × (w .list ≡ newListBytes (records bs) k id)
+  pub compacted-wrote : (bs : List ℕ) → Bytes bs → (B k id : ℕ) → id < 2 ^ 64 → (plan list plan' list' : List ℕ) (m n : ℕ)
+      → Compacts (compactOutcome bs B k id (length plan) (length list)) plan list (both.Wrote m n) plan' list'
+      → Allowed B (records bs) k id × Front (planBytes B (records bs) k) m plan' × Front (newListBytes (records bs) k id) n list'
+  -- "Copying turns the store before it into the store after it, by the plan": there is such a store
+  pub copying : (B : ℕ) (rs : List Record) (k id : ℕ) (before : Store) → Copied B rs k id before (copied B rs k id before)
   -- "Old and new list, both with these records at the end, read the same byte at each position from the store after copying": for every k, new
   -- id, store and list of appended records
-  pub compacted : (B : ℕ) (rs : List Record) (k id : ℕ) → Allowed B rs k id → (st : Store) (ys : List Record) → Sound ys → (p : ℕ) → p < chunk
-      → reads B (copied B rs k id st) (rs ++ ys) p ≡ reads B (copied B rs k id st) (records (newListBytes rs k id) ++ ys) p
+  pub compacted : (B : ℕ) (rs : List Record) (k id : ℕ) → Allowed B rs k id → (before after : Store) → Copied B rs k id before after
+      → (ys : List Record) (p : ℕ) → p < chunk → reads B after (rs ++ ys) p ≡ reads B after (records (newListBytes rs k id) ++ ys) p
   -- "The old list alone also reads from it what it read from the store before."
-  pub old-reads : (B : ℕ) (rs : List Record) (k id : ℕ) → Allowed B rs k id → (st : Store) (p : ℕ) → p < chunk
-      → reads B (copied B rs k id st) rs p ≡ reads B st rs p
+  pub old-reads : (B : ℕ) (rs : List Record) (k id : ℕ) → Allowed B rs k id → (before after : Store) → Copied B rs k id before after
+      → (p : ℕ) → reads B after rs p ≡ reads B before rs p

@@ -3,7 +3,7 @@ use Prim.Native.Nat.{ℕ}
 use mathlib.Core.Path.{_≡_, refl}
 use mathlib.Core.List.{List}
 use Rattle.outcomes.specs.Outcome.{Outcome, refused, done}
-use Rattle.outcomes.specs.Answers.{answer}
+use Rattle.outcomes.specs.Answers.{answer, answerOf}
 use Rattle.slices.specs.Refusals.{checked}
 use lib.ListN.{length}
 use Rattle.compaction.specs.Calls.{Both, answer as compactAnswer}
@@ -12,7 +12,6 @@ use Rattle.keys.specs.Keys.{Chunk as ChunkOf, chunkAnswer}
 use Rattle.names.specs.Names.{Object as ObjectOf, Full, objectAnswer, fullAnswer, volumePart}
 use Rattle.ezumokarin.specs.Names.{objectRead, fullRead, chunkRead, plainObject, plainChunk}
 use Rattle.ezumokarin.specs.Plain.{counted, wrote, plainChecked, plainAnswer}
-use Rattle.outcomes.specs.Answers.{answerOf}
 
 pub plain-counted : (o : Outcome ℕ) → plainChecked (checked o) ≡ counted o
 unfolding plainChecked answerOf counted

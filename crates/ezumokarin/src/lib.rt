@@ -3,7 +3,7 @@
 mod answers;
 mod compacting;
 mod lists;
-mod names;
+mod naming;
 mod reading;
 
 // What a call that counts or writes answers.

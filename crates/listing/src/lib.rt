@@ -3,9 +3,9 @@ mod lines;
 
 use codec::decimal::DIGITS;
 use outcomes::Answer;
+use outcomes::refusals;
 use slices::CHUNK;
 use slices::RECORD;
-use outcomes::refusals;
 ghost use lib.ListN.{length};
 ghost use Rattle.outcomes.specs.Answers.{Answers};
 ghost use mathlib.Core.Path.{_≡_};

@@ -1,9 +1,9 @@
 // Lines of text: a record's, a refusal's, and those of a view.
 use codec::decimal;
 use codec::put;
+use outcomes::Refusal;
 use slices::RECORD;
 use slices::Record;
-use outcomes::Refusal;
 use slices::records;
 ghost use mathlib.Core.Path.{_≡_};
 ghost use mathlib.Core.List.{_++_};

@@ -48,9 +48,15 @@ buffer o out = leftIn (λ bs. bs) o out
 abbrev pub Answers : Outcome (List ℕ) → List ℕ → Answer → List ℕ → Type 0
 Answers o before a after = Replies Refused howMany o (lent (λ bs. bs) before after ∷ []) a
 
--- what it wrote: as many bytes as it says, at the front of the buffer
+-- ---- what was written
+
+-- bs are the first n bytes of a buffer, and n is as many as they are
+pub record Front (bs : List ℕ) (n : ℕ) (after : List ℕ) : Type 0 where
+  pub counted : n ≡ length bs
+  pub front : take n after ≡ bs
+
+-- what a call wrote: as many bytes as it says, at the front of the buffer
 pub record Written (o : Outcome (List ℕ)) (n : ℕ) (after : List ℕ) : Type 0 where
   pub bytes : List ℕ
   pub outcome : o ≡ done bytes
-  pub counted : n ≡ length bytes
-  pub front : take n after ≡ bytes
+  pub first : Front bytes n after

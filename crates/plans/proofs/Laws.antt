@@ -1,5 +1,5 @@
 -- Laws of the definitions of specs/.
-pub mod Places
+pub mod Locations
 pub mod Pieces
 pub mod Walk
 pub mod Calls

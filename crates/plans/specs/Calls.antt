@@ -4,8 +4,7 @@ use mathlib.Core.List.{List, [], _∷_, _++_}
 use Rattle.slices.specs.Record.{records}
 use Rattle.outcomes.specs.Numbers as number
 use Rattle.outcomes.specs.Outcome.{Outcome, done, Row, row, firstOf, tooShort}
-use Rattle.slices.specs.Refusals.{listRows}
-use Rattle.slices.specs.Refusals.{chunkTooLong}
+use Rattle.slices.specs.Refusals.{listRows, chunkTooLong}
 use Rattle.blocks.specs.Blocks.{blockSizeBad}
 use Rattle.plans.specs.Piece.{encodePieces}
 use Rattle.plans.specs.Plan.{readPlan}

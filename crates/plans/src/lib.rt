@@ -5,10 +5,10 @@ pub mod walk;
 
 use blocks::block_allowed;
 use outcomes::Answer;
+use outcomes::refusals;
 use slices::CHUNK;
 use slices::Checked;
 use slices::check;
-use outcomes::refusals;
 ghost use Prim.Native.Nat.{_≤_};
 ghost use lib.ListN.{length};
 ghost use Rattle.slices.specs.Limits.{chunk};

@@ -19,7 +19,7 @@ ghost use Rattle.plans.specs.declared.Location.the-variants as locations
 fn location_of(s: Source, block: u32) -> Location
     requires { ⌜ Inside s ⌝ }
     requires { ⌜ 0 < block ⌝ }
-    ensures { λ r. ⌜ r ≡ place block s ⌝ }
+    ensures { λ r. ⌜ r ≡ location block s ⌝ }
 {
     let Source::Byte { id, size, off } = s else {
         return Location::Hole;

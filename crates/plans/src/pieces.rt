@@ -1,6 +1,6 @@
 // A piece of a plan, and its bytes.
-use crate::Piece;
 use crate::Location;
+use crate::Piece;
 use codec::fixed;
 ghost use mathlib.Core.Path.{_≡_};
 ghost use Prim.Native.Nat.{_+_, _≤_};

@@ -1,7 +1,7 @@
 // The pieces of a plan, from the first on: counted, and written.
 use crate::PIECE;
-use crate::pieces;
 use crate::locations;
+use crate::pieces;
 use outcomes::Answer;
 use outcomes::refusals;
 ghost use mathlib.Core.Path.{_≡_};

@@ -7,7 +7,7 @@ use lib.ListN.{length}
 use Rattle.slices.specs.Limits.{recordSize, chunk, maxRecords}
 use Rattle.slices.specs.Record.{count, records}
 use Rattle.outcomes.specs.Numbers as number
-use Rattle.outcomes.specs.Outcome.{Outcome, refused, done, Row, row, firstOf}
+use Rattle.outcomes.specs.Outcome.{Outcome, done, Row, row, firstOf}
 use Rattle.outcomes.specs.Answers.{answerOf}
 use Rattle.slices.specs.declared.Record.{Record}
 use Rattle.slices.specs.declared.Checked.{Checked}

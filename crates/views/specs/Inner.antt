@@ -1,12 +1,10 @@
 -- What the steps of a walk over the positions find. Assumes nothing.
-use Prim.Native.Nat.{ℕ, suc, _+_, _-_, _<_, _≤_}
-use mathlib.Core.Path.{_≡_}
+use Prim.Native.Nat.{ℕ, _+_, _-_, _≤_}
 use mathlib.Core.Bool.{Bool, true, false, not}
-use mathlib.Core.List.{List, _∷_, map}
-use Rattle.slices.specs.Cover.{cover}
+use mathlib.Core.List.{List, map}
+use Rattle.slices.specs.Cover.{cover, isNothing}
 use Rattle.runs.specs.Runs.{Run, runs}
 use Rattle.views.specs.View.{next, runRecord, covered}
-use Rattle.slices.specs.Cover.{isNothing}
 use Rattle.slices.specs.declared.Record.{Record}
 use Rattle.slices.specs.declared.Source.{Source}
 use Rattle.slices.specs.declared.Source.the-variants.{Nothing, Zero, Byte}

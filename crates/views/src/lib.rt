@@ -4,11 +4,11 @@ pub mod segments;
 mod walk;
 
 use outcomes::Answer;
+use outcomes::refusals;
 use slices::CHUNK;
 use slices::Checked;
 use slices::Source;
 use slices::check;
-use outcomes::refusals;
 ghost use lib.ListN.{length};
 ghost use Rattle.outcomes.specs.Answers.{Answers};
 ghost use Rattle.views.specs.Calls.{viewOutcome, tidyOutcome};

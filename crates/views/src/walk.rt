@@ -1,11 +1,11 @@
 // The runs of a list's cover, from the first on: counted, and written as records.
 use crate::maximal;
 use outcomes::Answer;
+use outcomes::refusals;
 use slices::RECORD;
 use slices::Record;
 use slices::Source;
 use slices::records;
-use outcomes::refusals;
 ghost use mathlib.Core.Path.{_≡_};
 ghost use Prim.Native.Nat.{_≤_};
 ghost use lib.ListN.{length};

@@ -1,15 +1,14 @@
 -- What `compact` answers, case by case, and exactly when each refusal is given. Assumes nothing.
 use Prim.Native.Nat.{ℕ, _<_, _≤_}
-use mathlib.Core.Path.{_≡_, refl, sym, ap, _∙_}
+use mathlib.Core.Path.{_≡_, sym, ap, _∙_}
 use mathlib.Core.Bool.{Bool, true, false, not}
 use mathlib.Core.Logic.{_↔_}
-use mathlib.Core.List.{List, []}
+use mathlib.Core.List.{List, [], _∷_}
 use lib.ListN.{length}
 use borrow.Author.Tests.{lt-ltb, le-ltb}
-use Rattle.codec.specs.Splice.{splice}
 use Rattle.slices.specs.Record.{records, count}
 use Rattle.outcomes.specs.Numbers as number
-use Rattle.outcomes.specs.Outcome.{Outcome, refused, done, refusal, firstOf, NoneHolds, Given}
+use Rattle.outcomes.specs.Outcome.{refused, done, refusal, firstOf, NoneHolds, Given, tooShort}
 use Rattle.slices.specs.Refusals.{checkOutcome, checked}
 use Rattle.outcomes.proofs.Laws.Outcome.{row-holds, row-passes, short-holds, short-passes, refused-exactly, answered-exactly}
 use Rattle.slices.proofs.Laws.Record.{length-records}
@@ -70,8 +69,8 @@ module _ (b : Both) (planRoom listRoom : ℕ) where
   short-plan h = short-holds (b .plan) planRoom (done b) _ h
 
   pub short-list : length (b .plan) ≤ planRoom → listRoom < length (b .list) → delivered b planRoom listRoom ≡ refused (refusal number.shortBuffer 0)
-  short-list h l = short-passes (b .plan) planRoom (done b) _ h ∙ short-holds (b .list) listRoom (done b) [] l
+  short-list h l = short-passes (b .plan) planRoom (done b) (tooShort (b .list) listRoom ∷ []) h ∙ short-holds (b .list) listRoom (done b) [] l
 
   pub room-for-both : length (b .plan) ≤ planRoom → length (b .list) ≤ listRoom → delivered b planRoom listRoom ≡ done b
   unfolding firstOf
-  room-for-both h l = short-passes (b .plan) planRoom (done b) _ h ∙ short-passes (b .list) listRoom (done b) [] l
+  room-for-both h l = short-passes (b .plan) planRoom (done b) (tooShort (b .list) listRoom ∷ []) h ∙ short-passes (b .list) listRoom (done b) [] l

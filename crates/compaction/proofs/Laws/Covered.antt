@@ -6,9 +6,8 @@ use mathlib.Core.Bool.{Bool, true, false, cond, not, _||_}
 use mathlib.Core.Path.{_≡_, refl, ap, _∙_}
 use mathlib.Core.List.{List, [], _∷_}
 use lib.Dec.{eqb}
-use Rattle.slices.specs.Cover.{cover, over, layer, given, covers}
+use Rattle.slices.specs.Cover.{cover, over, layer, given, covers, isNothing}
 use Rattle.slices.proofs.Laws.Cover.{covers-before, covers-after}
-use Rattle.slices.specs.Cover.{isNothing}
 use Rattle.compaction.specs.Span.{isCovered}
 use Rattle.slices.specs.declared.Record.{Record}
 use Rattle.slices.specs.declared.Source.{Source}

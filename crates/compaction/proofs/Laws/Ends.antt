@@ -13,7 +13,7 @@ use Rattle.codec.specs.All.{All}
 use Rattle.slices.specs.Limits.{chunk}
 use Rattle.slices.specs.Passes.{Passes}
 use Rattle.slices.proofs.Laws.Cover.{covers-in, covers-before, covers-after}
-use Rattle.compaction.specs.Span.{anyBelow, first, last, isCovered, firstCovered, lastCovered, coversNothing}
+use Rattle.compaction.specs.Span.{first, last, isCovered, firstCovered, lastCovered, coversNothing}
 use Rattle.compaction.specs.Inner.{lowest, highest}
 use Rattle.compaction.proofs.Laws.Covered.{covered-nil, covers-empty, none, rest, here}
 use Rattle.compaction.proofs.Laws.Span.{some-below, all-below, first-is, last-is, first-unique, last-unique, something-covered}
@@ -113,6 +113,6 @@ last-highest rs w e =
     let l = last-is t chunk (something-covered rs e) in
     let h = highest-top rs w in
     let some : 0 < highest rs =
-        elim (decLt 0 (highest rs)) [ yes a ↦ a | no a ↦ absurd (true≢false (sym (l .here) ∙ h .beyond (last t chunk) (omega arith))) ] in
+    elim (decLt 0 (highest rs)) [ yes a ↦ a | no a ↦ absurd (true≢false (sym (l .here) ∙ h .beyond (last t chunk) (omega arith))) ] in
     let m = last-unique t chunk (last t chunk) (highest rs - 1) l (record { inside = omega (arith, h .bound); here = h .top some; beyond = λ p a b. h .beyond p (omega arith) }) in
     omega arith

@@ -6,8 +6,7 @@ use mathlib.Core.Path.{_≡_, refl, sym, ap, _∙_}
 use mathlib.Core.Bool.{Bool, true, false, cond, not, _||_, true≢false}
 use mathlib.Core.List.{List}
 use Rattle.slices.specs.Limits.{chunk}
-use Rattle.slices.specs.Cover.{cover}
-use Rattle.slices.specs.Cover.{isNothing}
+use Rattle.slices.specs.Cover.{cover, isNothing}
 use Rattle.compaction.specs.Span.{IsFirst, IsLast, anyBelow, first, last, isCovered, firstCovered, lastCovered, coversNothing}
 use Rattle.slices.specs.declared.Record.{Record}
 use Rattle.slices.specs.declared.Source.{Source}

@@ -2,7 +2,7 @@
 -- with any records appended, read the same byte at every position; and the old list alone reads what it read before. Assumes nothing.
 use Prim.Native.Nat.{ℕ, _<_}
 use native.Mathlib.Nat.{le-refl}
-use mathlib.Core.Path.{_≡_, ap}
+use mathlib.Core.Path.{_≡_}
 use mathlib.Core.Bool.{Bool, true, false, cond}
 use mathlib.Core.List.{List, [], _++_}
 use lib.ListN.{take}
@@ -10,14 +10,14 @@ use Rattle.codec.specs.All.{All}
 use Rattle.slices.specs.Limits.{chunk}
 use Rattle.slices.specs.Record.{Fits, records}
 use Rattle.slices.specs.Passes.{Passes}
-use Rattle.plans.specs.Piece.{piecesIn, PieceFits}
+use Rattle.plans.specs.Piece.{piecesIn, RunFits}
 use Rattle.plans.specs.Plan.{readPlan}
 use Rattle.plans.specs.Store.{Store, reads}
 use Rattle.plans.proofs.Laws.Pieces.{pieces-back}
 use Rattle.plans.proofs.Laws.Fits.{plan-fits}
 use Rattle.compaction.specs.Span.{firstCovered, coversNothing}
 use Rattle.compaction.specs.Compaction.{extent, planOf, compactionPlan, planBytes, newListBytes}
-use Rattle.copying.specs.Copy.{copy, copied}
+use Rattle.copying.specs.Copy.{Copies, Copied}
 use Rattle.copying.specs.ThirdDemand.{Sound, Allowed}
 use Rattle.codec.proofs.Laws.All.{all-take}
 use Rattle.copying.proofs.Laws.Fresh.{not-in-use}
@@ -25,11 +25,11 @@ use Rattle.copying.proofs.Laws.Reads.{pieces-old, pieces-law}
 use Rattle.compaction.proofs.Laws.NewList.{new-list-back}
 use Rattle.slices.specs.declared.Record.{Record}
 
-plan-of-fits : (B : ℕ) (xs : List Record) → All Passes xs → All Fits xs → All PieceFits (planOf B xs)
+plan-of-fits : (B : ℕ) (xs : List Record) → All Passes xs → All Fits xs → All RunFits (planOf B xs)
 unfolding planOf
 plan-of-fits B xs h f = go (coversNothing xs)
   where
-    go : (x : Bool) → All PieceFits (cond x [] (readPlan B xs chunk (firstCovered xs) (extent xs)))
+    go : (x : Bool) → All RunFits (cond x [] (readPlan B xs chunk (firstCovered xs) (extent xs)))
     go true = tt
     go false = plan-fits B xs h f chunk (firstCovered xs) (extent xs) (le-refl chunk)
 
@@ -38,18 +38,14 @@ pub plan-back : (B : ℕ) (rs : List Record) (k : ℕ) → Sound rs → piecesIn
 unfolding planBytes compactionPlan
 plan-back B rs k s = pieces-back (compactionPlan B rs k) (plan-of-fits B (take k rs) (all-take Passes k rs (s .pass)) (all-take Fits k rs (s .fit)))
 
-module _ (B : ℕ) (rs : List Record) (k id : ℕ) (w : Allowed B rs k id) (st : Store) where
-  copied-is : copied B rs k id st ≡ copy B id (extent (take k rs)) st (compactionPlan B rs k)
-  unfolding copied
-  copied-is = ap (copy B id (extent (take k rs)) st) (plan-back B rs k (w .sound))
+module _ (B : ℕ) (rs : List Record) (k id : ℕ) (w : Allowed B rs k id) (st st' : Store) (c : Copied B rs k id st st') where
+  by-plan : Copies B id (extent (take k rs)) (compactionPlan B rs k) st st'
+  by-plan = rw (plan-back B rs k (w .sound)) at c
 
-  pub old-list-reads : (p : ℕ) → reads B (copied B rs k id st) rs p ≡ reads B st rs p
-  old-list-reads p =
-      let n = not-in-use id rs (w .new) in
-      rw copied-is (pieces-old B rs k id (n .1) st p)
+  pub old-list-reads : (p : ℕ) → reads B st' rs p ≡ reads B st rs p
+  old-list-reads p = pieces-old B rs k id (not-in-use id rs (w .new) .1) st st' by-plan p
 
-  pub compaction-law : (ys : List Record) (p : ℕ) → p < chunk
-      → reads B (copied B rs k id st) (rs ++ ys) p ≡ reads B (copied B rs k id st) (records (newListBytes rs k id) ++ ys) p
+  pub compaction-law : (ys : List Record) (p : ℕ) → p < chunk → reads B st' (rs ++ ys) p ≡ reads B st' (records (newListBytes rs k id) ++ ys) p
   compaction-law ys p h =
       let n = not-in-use id rs (w .new) in
-      rw (copied-is, new-list-back id (n .0) (w .number) rs k (w .sound .fit)) (pieces-law B rs k id (n .1) st (n .0) ys p h)
+      rw (new-list-back id (n .0) (w .number) rs k (w .sound .fit)) (pieces-law B rs k id (n .1) st st' by-plan (n .0) ys p h)

@@ -17,22 +17,22 @@ use Rattle.plans.specs.Store.{Store, fetch, reads}
 use Rattle.plans.proofs.Laws.Bytes.{plan-bytes}
 use Rattle.compaction.specs.Span.{firstCovered, lastCovered, coversNothing}
 use Rattle.compaction.specs.Compaction.{extent, planOf, newRecord, standIn}
-use Rattle.copying.specs.Copy.{copy}
+use Rattle.copying.specs.Copy.{Copies}
 use Rattle.compaction.proofs.Laws.Span.{Spans, spans, nothing-covered}
-use Rattle.copying.proofs.Laws.Copy.{copy-hit, copy-miss}
 use Rattle.copying.proofs.Laws.Held.{plan-held}
 use Rattle.copying.proofs.Laws.Fresh.{Fresh, fresh-apart}
 use Rattle.slices.specs.declared.Record.{Record}
 use Rattle.slices.specs.declared.Source.{Source}
 use Rattle.slices.specs.declared.Source.the-variants.{Nothing, Byte}
-use Rattle.plans.specs.declared.Piece.{Piece}
+use Rattle.runs.specs.Runs.{Run}
+use Rattle.plans.specs.declared.Location.{Location}
 
 -- ---- a list that copying does not concern
 
-pub fresh-reads : (B id size : ℕ) (st : Store) (ps : List Piece) (rs : List Record) → Fresh id rs → (p : ℕ)
-    → reads B (copy B id size st ps) rs p ≡ reads B st rs p
+pub fresh-reads : (B id size : ℕ) (ps : List (Run Location)) (st st' : Store) → Copies B id size ps st st' → (rs : List Record) → Fresh id rs → (p : ℕ)
+    → reads B st' rs p ≡ reads B st rs p
 unfolding reads
-fresh-reads B id size st ps rs h p = copy-miss B id size st ps (locationAt B rs p) (fresh-apart B id size rs h p)
+fresh-reads B id size ps st st' c rs h p = c .stays (locationAt B rs p) (λ o k. fresh-apart B id size rs h p o)
 
 -- ---- the new record's cover
 
@@ -57,49 +57,40 @@ in-read : (xs : List Record) → Spans xs → (p : ℕ) → firstCovered xs ≤ 
 unfolding cutTo extent
 in-read xs s p a b = omega (arith, s .top)
 
-module _ (B : ℕ) (xs : List Record) (id : ℕ) (st : Store) where
-  -- the store after copying
-  abbrev after : List Piece → Store
-  after ps = copy B id (extent xs) st ps
-
+module _ (B : ℕ) (xs : List Record) (id : ℕ) (st st' : Store) where
   -- at the positions from p to q, the new slice holds what the records read
-  slice-copied : Spans xs → (p : ℕ) → firstCovered xs ≤ p → p ≤ lastCovered xs
-      → fetch (after (readPlan B xs chunk (firstCovered xs) (extent xs))) (location B (Byte id (extent xs) (p - firstCovered xs))) ≡ reads B st xs p
-  slice-copied s p a b =
-      let plan = readPlan B xs chunk (firstCovered xs) (extent xs) in
+  slice-copied : Copies B id (extent xs) (readPlan B xs chunk (firstCovered xs) (extent xs)) st st' → Spans xs → (p : ℕ) → firstCovered xs ≤ p → p ≤ lastCovered xs
+      → fetch st' (location B (Byte id (extent xs) (p - firstCovered xs))) ≡ reads B st xs p
+  slice-copied c s p a b =
       let e : firstCovered xs + (p - firstCovered xs) ≡ p = omega arith in
       let h = in-read xs s p a b in
-      copy-hit B id (extent xs) st plan (p - firstCovered xs) (plan-held B xs chunk (firstCovered xs) (extent xs) (p - firstCovered xs) h)
+      c .sets (p - firstCovered xs) (plan-held B xs chunk (firstCovered xs) (extent xs) (p - firstCovered xs) h)
       ∙ plan-bytes st B xs chunk (firstCovered xs) (extent xs) (p - firstCovered xs) h
       ∙ ap (reads B st xs) e
 
   module _ (nz : id ≢ 0) (fresh : Fresh id xs) (p : ℕ) (h : p < chunk) where
-    new-reads : Spans xs → let st' = after (readPlan B xs chunk (firstCovered xs) (extent xs)) in
-        fetch st' (location B (cover xs p)) ≡ fetch st' (location B (layer (newRecord xs id) p))
+    new-reads : Copies B id (extent xs) (readPlan B xs chunk (firstCovered xs) (extent xs)) st st' → Spans xs
+        → fetch st' (location B (cover xs p)) ≡ fetch st' (location B (layer (newRecord xs id) p))
     unfolding reads locationAt
-    new-reads s =
-        let plan = readPlan B xs chunk (firstCovered xs) (extent xs) in
-        let at : Source → ℕ = λ x. fetch (after plan) (location B x) in
+    new-reads c s =
+        let at : Source → ℕ = λ x. fetch st' (location B x) in
         elim (decLt p (firstCovered xs)) [
           | yes a ↦ ap at (s .left p a ∙ sym (new-left xs id p a))
           | no a ↦
               elim (decLt (lastCovered xs) p) [
                 | yes b ↦ ap at (s .right p b h ∙ sym (new-right xs id s p b))
                 | no b ↦
-                    fresh-reads B id (extent xs) st plan xs fresh p
-                    ∙ sym (slice-copied s p (omega arith) (omega arith))
+                    fresh-reads B id (extent xs) _ st st' c xs fresh p
+                    ∙ sym (slice-copied c s p (omega arith) (omega arith))
                     ∙ ap at (sym (new-inside xs id nz p (omega arith) (omega arith)))
               ]
         ]
 
-    pub stand-in-reads : fetch (after (planOf B xs)) (location B (cover xs p)) ≡ fetch (after (planOf B xs)) (location B (cover (standIn xs id) p))
+    pub stand-in-reads : Copies B id (extent xs) (planOf B xs) st st' → fetch st' (location B (cover xs p)) ≡ fetch st' (location B (cover (standIn xs id) p))
     unfolding planOf standIn cover
-    stand-in-reads = go (coversNothing xs) refl
+    stand-in-reads c = go (coversNothing xs) refl c
       where
-        plan : Bool → List Piece
-        plan b = cond b [] (readPlan B xs chunk (firstCovered xs) (extent xs))
-
-        go : (b : Bool) → coversNothing xs ≡ b
-            → fetch (after (plan b)) (location B (cover xs p)) ≡ fetch (after (plan b)) (location B (cover (cond b [] (newRecord xs id ∷ [])) p))
-        go true e = ap (λ (x : Source). fetch (after []) (location B x)) (nothing-covered xs e p h)
-        go false e = new-reads (spans xs e) ∙ ap (λ (x : Source). fetch (after (plan false)) (location B x)) (sym (over-nothing-left (layer (newRecord xs id) p)))
+        go : (b : Bool) → coversNothing xs ≡ b → Copies B id (extent xs) (cond b [] (readPlan B xs chunk (firstCovered xs) (extent xs))) st st'
+            → fetch st' (location B (cover xs p)) ≡ fetch st' (location B (cover (cond b [] (newRecord xs id ∷ [])) p))
+        go true e c = ap (λ (x : Source). fetch st' (location B x)) (nothing-covered xs e p h)
+        go false e c = new-reads c (spans xs e) ∙ ap (λ (x : Source). fetch st' (location B x)) (sym (over-nothing-left (layer (newRecord xs id) p)))

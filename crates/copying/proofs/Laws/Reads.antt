@@ -10,8 +10,8 @@ use Rattle.slices.specs.Cover.{cover, over}
 use Rattle.slices.proofs.Laws.Cover.{cover-append}
 use Rattle.plans.specs.Location.{location, locationAt}
 use Rattle.plans.specs.Store.{Store, fetch, reads}
-use Rattle.compaction.specs.Compaction.{extent, planOf, compactionPlan, standIn, newList}
-use Rattle.copying.specs.Copy.{copy}
+use Rattle.compaction.specs.Compaction.{extent, compactionPlan, standIn, newList}
+use Rattle.copying.specs.Copy.{Copies}
 use Rattle.codec.proofs.Laws.All.{all-take}
 use Rattle.copying.proofs.Laws.Fresh.{Fresh}
 use Rattle.copying.proofs.Laws.NewSlice.{fresh-reads, stand-in-reads}
@@ -32,22 +32,18 @@ cover-three xs ys zs p = simp cover-append
 cover-first : (k : ℕ) (rs ys : List Record) (p : ℕ) → cover (rs ++ ys) p ≡ over (cover ys p) (over (cover (drop k rs) p) (cover (take k rs) p))
 cover-first k rs ys p = ap (λ (l : List Record). cover (l ++ ys) p) (sym (take-append-drop k rs)) ∙ cover-three (take k rs) (drop k rs) ys p
 
-module _ (B : ℕ) (rs : List Record) (k id : ℕ) (fresh : Fresh id rs) (st : Store) where
-  abbrev after : Store
-  after = copy B id (extent (take k rs)) st (compactionPlan B rs k)
+module _ (B : ℕ) (rs : List Record) (k id : ℕ) (fresh : Fresh id rs) (st st' : Store) (c : Copies B id (extent (take k rs)) (compactionPlan B rs k) st st') where
+  pub pieces-old : (p : ℕ) → reads B st' rs p ≡ reads B st rs p
+  pieces-old p = fresh-reads B id (extent (take k rs)) (compactionPlan B rs k) st st' c rs fresh p
 
-  pub pieces-old : (p : ℕ) → reads B after rs p ≡ reads B st rs p
-  pieces-old p = fresh-reads B id (extent (take k rs)) st (compactionPlan B rs k) rs fresh p
-
-  pub pieces-law : id ≢ 0 → (ys : List Record) (p : ℕ) → p < chunk → reads B after (rs ++ ys) p ≡ reads B after (newList rs k id ++ ys) p
+  pub pieces-law : id ≢ 0 → (ys : List Record) (p : ℕ) → p < chunk → reads B st' (rs ++ ys) p ≡ reads B st' (newList rs k id ++ ys) p
   unfolding reads locationAt newList compactionPlan
   pieces-law nz ys p h =
       let xs = take k rs in
       let zs = drop k rs in
-      let st' = copy B id (extent xs) st (planOf B xs) in
       let at : Source → ℕ = λ x. fetch st' (location B x) in
       ap at (cover-first k rs ys p)
       ∙ under B st' (cover ys p) (over (cover zs p) (cover xs p)) (over (cover zs p) (cover (standIn xs id) p))
       (under B st' (cover zs p) (cover xs p) (cover (standIn xs id) p)
-      (stand-in-reads B xs id st nz (all-take (λ (r : Record). r .id ≢ id) k rs fresh) p h))
+      (stand-in-reads B xs id st st' nz (all-take (λ (r : Record). r .id ≢ id) k rs fresh) p h c))
       ∙ sym (ap at (cover-three (standIn xs id) zs ys p))

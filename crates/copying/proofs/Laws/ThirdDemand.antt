@@ -8,6 +8,12 @@ use Rattle.slices.proofs.Laws.Cover.{cover-append, over-assoc, over-nothing-lef
 use Rattle.slices.proofs.Laws.Record.{records-back}
 use Rattle.views.specs.View.{tidied, tidiedBytes}
 use Rattle.views.proofs.Laws.Tidied.{cover-replaced, tidied-same-bytes, tidied-fits}
+use lib.ListN.{take}
+use Rattle.plans.specs.Piece.{piecesIn}
+use Rattle.plans.specs.Store.{Store}
+use Rattle.compaction.specs.Compaction.{extent, planBytes}
+use Rattle.copying.specs.Copy.{Copied, copied}
+use Rattle.copying.proofs.Laws.Copy.{copy-copies}
 use Rattle.copying.specs.ThirdDemand.{Sound, ThirdDemand}
 use Rattle.copying.proofs.Laws.Compaction.{compaction-law, old-list-reads}
 use Rattle.copying.proofs.Laws.Answered.{tidied-wrote, compacted-wrote}
@@ -26,6 +32,10 @@ tidied-records : (rs : List Record) → Sound rs → records (tidiedBytes rs) �
 unfolding tidiedBytes
 tidied-records rs h = records-back (tidied rs) (tidied-fits rs (h .pass) (h .fit))
 
+copying : (B : ℕ) (rs : List Record) (k id : ℕ) (before : Store) → Copied B rs k id before (copied B rs k id before)
+unfolding copied
+copying B rs k id before = copy-copies B id (extent (take k rs)) before (piecesIn (planBytes B rs k))
+
 pub third-demand : ThirdDemand
 third-demand =
     record {
@@ -38,6 +48,7 @@ third-demand =
       tidied-records = tidied-records;
       tidied-wrote = tidied-wrote;
       compacted-wrote = compacted-wrote;
-      compacted = λ B rs k id w st ys s p h. compaction-law B rs k id w st ys p h;
-      old-reads = λ B rs k id w st p h. old-list-reads B rs k id w st p;
+      copying = copying;
+      compacted = compaction-law;
+      old-reads = old-list-reads;
     }

@@ -6,8 +6,7 @@ use lib.ListN.{length, length-take}
 use denote.Ref.{now}
 use Rattle.slices.specs.Limits.{chunk}
 use Rattle.outcomes.specs.Outcome.{done}
-use Rattle.outcomes.specs.Answers.{Answers}
-use Rattle.outcomes.specs.Answers.{Written}
+use Rattle.outcomes.specs.Answers.{Answers, Written}
 use Rattle.outcomes.proofs.Laws.Answers.{answers-refusal, answers-done, said-refused, said-wrote}
 use Rattle.views.specs.Calls.{viewOutcome}
 use Rattle.views.proofs.Laws.Calls.{view-fits}
@@ -80,19 +79,19 @@ array-share-prefix-view : tie.Need-array-share-prefix-view
 array-share-prefix-view c =
     let m = c .before .before in
     let v = m .before .before .before in
-    omega (arith, wrote m .counted, room m, v .view2 .kept .1 .1 .0)
+    omega (arith, wrote m .first .counted, room m, v .view2 .kept .1 .1 .0)
 
 slice-aggregate-put-view : tie.Need-slice-aggregate-put-view
 slice-aggregate-put-view c =
     let m = c .before .before .before in
     let v = m .before .before .before in
-    simp length-take (omega (arith, wrote m .counted, room m, v .view2 .kept .1 .1 .0))
+    simp length-take (omega (arith, wrote m .first .counted, room m, v .view2 .kept .1 .1 .0))
 
 put-view-requires : tie.Need-put-view-requires
 put-view-requires c κs =
     let m = c .before .before .before in
     let v = m .before .before .before in
-    (simp length-take (omega (arith, wrote m .counted, room m, v .before .before .blank .ensures)), omega arith)
+    (simp length-take (omega (arith, wrote m .first .counted, room m, v .before .before .blank .ensures)), omega arith)
 
 same-length-2 : tie.Need-same-length-2
 same-length-2 c = search needs
@@ -123,7 +122,7 @@ returns-4 c =
     let a = else .before .before .before .before .args in
     let e = text-done (a .longer) (now (a .list)) _ (else .before .if1 .left) in
     let l = listing-view (a .longer) (now (a .list)) (else .if2 .left) (wrote m .bytes) (wrote m .outcome) in
-    let w = rw (wrote m .front) at (put .put-view .ensures) in
+    let w = rw (wrote m .first .front) at (put .put-view .ensures) in
     answers-done _ _ _ _ _ (e ∙ ap done l) (sym (w .0)) (w .1)
 
 pub text-spec : {M : Type 1} → statement M

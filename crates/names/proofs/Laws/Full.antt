@@ -21,7 +21,7 @@ use Rattle.texts.specs.Words.{slash, underscore}
 use Rattle.texts.specs.Parts.{write, allows, Scan, onward, scan}
 use Rattle.texts.specs.Inner.{wordAfter}
 use Rattle.names.specs.Volume.{volumeAllowed, volumeRun, volumeAt}
-use Rattle.texts.specs.Calls.{reading}
+use Rattle.texts.specs.Calls.{reading, WriterRefuses}
 use Rattle.texts.specs.Inverse.{Inverse, Any}
 use Rattle.names.specs.Names.{Object, object, Full, full, objectAllowed, objectName, nameForm, objectOf, readObject, objectAnswer, fullAllowed, fullName, fullForm, fullScan, inVolume, readFull, fullAnswer, volumePart, writeFull}
 use Rattle.names.specs.declared.ObjectName.the-variants.{Block, Refused}
@@ -30,7 +30,6 @@ use Rattle.texts.proofs.Laws.Steps.{on-word}
 use Rattle.texts.proofs.Laws.Shows.{Shows, shows-back, shows-forth}
 use Rattle.names.proofs.Laws.Volume.{right, is-right, run-writes, run-reads}
 use Rattle.names.proofs.Laws.Names.{shown, name-text, name-shows}
-use Rattle.texts.specs.Calls.{WriterRefuses}
 use Rattle.texts.proofs.Laws.Calls.{writer-refuses, reading-only}
 use Rattle.texts.proofs.Laws.Inverse as inverse
 use Rattle.outcomes.specs.Answers.{answerOf}

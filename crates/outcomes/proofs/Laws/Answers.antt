@@ -1,14 +1,14 @@
 -- Laws of answers: what calls return and leave, case by case, and what an answer tells. Assumes nothing.
 use Prim.Native.Nat.{ℕ}
 use mathlib.Core.Path.{_≡_, refl, sym, ap, _∙_}
-use mathlib.Core.List.{List, [], _∷_}
+use mathlib.Core.List.{List}
 use native.Mathlib.Omega.{arith}
 use lib.ListN.{length, take}
 use Rattle.codec.specs.All.{All}
 use Rattle.codec.specs.Splice.{splice}
 use Rattle.codec.proofs.Laws.Splice.{take-splice}
 use Rattle.outcomes.specs.Outcome.{OutcomeOf, refused, done, Outcome}
-use Rattle.outcomes.specs.Answers.{answerOf, leftIn, Lent, lent, Replies, howMany, Answers, Written}
+use Rattle.outcomes.specs.Answers.{answerOf, leftIn, Lent, Replies, Answers, Front, Written}
 use Rattle.outcomes.specs.declared.Refusal.{Refusal}
 use Rattle.outcomes.specs.declared.Answer.{Answer}
 use Rattle.outcomes.specs.declared.Answer.the-variants.{Wrote, Refused}
@@ -29,13 +29,6 @@ module _ {R A X : Type 0} {refuse : R → X} {say : A → X} where
 
   pub replies-as : (o p : OutcomeOf R A) (x : X) (buffers : List (Lent A)) → o ≡ p → Replies refuse say p buffers x → Replies refuse say o buffers x
   replies-as o p x buffers e h = rw e h
-
--- the same answer in other words
-pub answer-as : {R A X Y : Type 0} (f : X → Y) (refuse : R → X) (say : A → X) (refuse' : R → Y) (say' : A → Y) → ((r : R) → f (refuse r) ≡ refuse' r)
-    → ((a : A) → f (say a) ≡ say' a) → (o : OutcomeOf R A) → f (answerOf refuse say o) ≡ answerOf refuse' say' o
-unfolding answerOf
-answer-as f refuse say refuse' say' h k (refused r) = h r
-answer-as f refuse say refuse' say' h k (done a) = k a
 
 -- ---- one buffer
 
@@ -59,9 +52,11 @@ unfolding answerOf
 said-refused (refused q) before after r a = let e : q ≡ r = cc (a .answers) in ap refused e
 said-refused (done bs) before after r a = let z : _≡_ {A = ℕ} 0 1 = cc (a .answers) in absurd (omega arith)
 
-pub said-howMany : (o : Outcome (List ℕ)) (before after : List ℕ) (n : ℕ) → Answers o before (Wrote n) after → Written o n after
+-- n bytes that are put to the front of a buffer
+pub front-of : (before after bs : List ℕ) (n : ℕ) → n ≡ length bs → after ≡ splice before 0 bs → Front bs n after
+front-of before after bs n e h = record { counted = e; front = ap (take n) h ∙ take-splice before bs n e }
+
+pub said-wrote : (o : Outcome (List ℕ)) (before after : List ℕ) (n : ℕ) → Answers o before (Wrote n) after → Written o n after
 unfolding answerOf leftIn
-said-howMany (refused q) before after n a = let z : _≡_ {A = ℕ} 0 1 = cc (a .answers) in absurd (omega arith)
-said-howMany (done bs) before after n a =
-    let e : n ≡ length bs = cc (a .answers) in
-    record { bytes = bs; outcome = refl; counted = e; front = ap (take n) (a .leaves .0) ∙ take-splice before bs n e }
+said-wrote (refused q) before after n a = let z : _≡_ {A = ℕ} 0 1 = cc (a .answers) in absurd (omega arith)
+said-wrote (done bs) before after n a = record { bytes = bs; outcome = refl; first = front-of before after bs n (cc (a .answers)) (a .leaves .0) }

@@ -9,10 +9,9 @@ use Rattle.codec.proofs.Laws.All.{all-left}
 use Rattle.slices.specs.Limits.{chunk}
 use Rattle.slices.specs.Record.{records}
 use Rattle.outcomes.specs.Outcome.{done, Row, NoneHolds}
-use Rattle.slices.specs.Refusals.{listRows}
+use Rattle.slices.specs.Refusals.{listRows, chunkTooLong}
 use Rattle.outcomes.proofs.Laws.Outcome.{done-none, done-is}
 use Rattle.slices.proofs.Laws.Refusals.{none-accepts}
-use Rattle.slices.specs.Refusals.{chunkTooLong}
 use Rattle.plans.specs.Piece.{piecesIn}
 use Rattle.plans.specs.Plan.{cutTo}
 use Rattle.plans.specs.Store.{Store, reads, fetched}

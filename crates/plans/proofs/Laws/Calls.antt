@@ -9,9 +9,8 @@ use Rattle.slices.specs.Limits.{chunk}
 use Rattle.slices.specs.Record.{records}
 use Rattle.outcomes.specs.Numbers as number
 use Rattle.outcomes.specs.Outcome.{refused, done, refusal, delivered, NoneHolds, Given}
-use Rattle.slices.specs.Refusals.{checkOutcome, checked}
+use Rattle.slices.specs.Refusals.{checkOutcome, checked, chunkTooLong}
 use Rattle.outcomes.proofs.Laws.Outcome.{row-holds, row-passes, refused-exactly, answered-exactly}
-use Rattle.slices.specs.Refusals.{chunkTooLong}
 use Rattle.slices.proofs.Laws.Refusals.{list-stops, list-lets}
 use Rattle.blocks.specs.Blocks.{blockAllowed, blockSizeBad}
 use Rattle.plans.specs.Piece.{encodePieces}

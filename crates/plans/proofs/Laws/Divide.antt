@@ -1,5 +1,5 @@
 -- A plan divides the places of the read into maximal runs, and is the only such division. Assumes nothing.
-use Prim.Native.Nat.{ℕ, _+_}
+use Prim.Native.Nat.{ℕ}
 use native.Mathlib.Nat.{zero-add}
 use mathlib.Core.Path.{_≡_}
 use mathlib.Core.List.{List}

@@ -9,8 +9,7 @@ use Rattle.slices.specs.Cover.{cover}
 use Rattle.slices.specs.Passes.{Passes}
 use Rattle.slices.specs.Record.{Fits}
 use Rattle.blocks.specs.Blocks.{blockLength}
-use Rattle.runs.specs.Runs.{Run}
-use Rattle.runs.specs.Runs.{Valid}
+use Rattle.runs.specs.Runs.{Run, Valid}
 use Rattle.runs.proofs.Laws.Runs.{valid-le}
 use Rattle.slices.proofs.Laws.Sources.{Real, IdFits, cover-real, cover-id}
 use Rattle.plans.specs.Location.{location, locationAt, nextLocation}

@@ -1,14 +1,15 @@
 -- The runs of a plan, one after the other. Assumes nothing.
-use Prim.Native.Nat.{ℕ, _+_, _-_, _<_, _≤_}
+use Prim.Native.Nat.{ℕ, _-_, _<_, _≤_}
 use native.Mathlib.Omega.{arith}
 use native.Mathlib.Nat.{add-zero}
 use native.Mathlib.Decide.{decLt}
-use mathlib.Core.Path.{_≡_, ap, _∙_}
-use mathlib.Core.List.{List, [], _∷_, map}
-use Rattle.runs.specs.Runs.{Run, runs}
+use mathlib.Core.Path.{_≡_, ap}
+use mathlib.Core.List.{List, [], _∷_, map, flatMap}
+use Rattle.runs.specs.Runs.{runs}
 use Rattle.runs.specs.Inner.{Leads, earlier}
 use Rattle.runs.proofs.Laws.Runs.{runs-earlier}
 use Rattle.plans.specs.Location.{locationAt, nextLocation}
+use Rattle.plans.specs.Piece.{encodeRun, encodePieces}
 use Rattle.plans.specs.Plan.{cutTo, locationFrom, pieces, readPlan}
 use Rattle.plans.specs.Inner.{piecesLeft, Cut}
 use Rattle.slices.specs.declared.Record.{Record}
@@ -30,6 +31,10 @@ module _ (B : ℕ) (rs : List Record) (from end : ℕ) where
   pub left-all : piecesLeft B rs from end from ≡ pieces B rs from (end - from)
   unfolding piecesLeft pieces locationFrom
   left-all = rw (runs-earlier nextLocation from (locationAt B rs) 0 (end - from), add-zero)
+
+  pub left-bytes : flatMap encodeRun (piecesLeft B rs from end from) ≡ encodePieces (pieces B rs from (end - from))
+  unfolding encodePieces
+  left-bytes = ap (flatMap encodeRun) left-all
 
 -- a read that is cut to the chunk length
 pub plan-cut : (B : ℕ) (rs : List Record) (l start count from end : ℕ) → Cut l start count from end

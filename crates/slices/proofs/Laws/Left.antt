@@ -3,13 +3,11 @@ use Prim.Native.Nat.{ℕ, suc, _+_, _-_, _<_, _≤_}
 use native.Mathlib.Omega.{arith}
 use native.Mathlib.Numerals.{add-one}
 use mathlib.Core.Path.{_≡_}
-use mathlib.Core.Bool.{true, false, cond}
+use mathlib.Core.Bool.{true, false}
 use mathlib.Core.Logic.{_≢_}
 use mathlib.Core.List.{List, [], _∷_}
-use lib.Dec.{eqb}
 use borrow.Author.Tests.{eq-eqb, ne-eqb}
 use Rattle.codec.specs.Groups.{groupsFrom}
-use Rattle.slices.specs.Limits.{chunk}
 use Rattle.slices.specs.Record.{recordAt, recordsFrom, count, records}
 use Rattle.slices.specs.Ids.{stands}
 use Rattle.slices.specs.declared.Record.{Record}

@@ -3,18 +3,17 @@ use Prim.Native.Nat.{ℕ, _<_, _≤_}
 use mathlib.Core.Path.{_≡_, _∙_}
 use mathlib.Core.Bool.{true, false}
 use mathlib.Core.Logic.{_↔_}
-use mathlib.Core.List.{List, _∷_, _++_}
+use mathlib.Core.List.{List, _∷_}
 use lib.ListN.{length}
 use borrow.Author.Tests.{lt-ltb, le-ltb}
 use Rattle.slices.specs.Limits.{chunk}
 use Rattle.slices.specs.Record.{records, encodeAll}
 use Rattle.outcomes.specs.Numbers as number
-use Rattle.outcomes.specs.Outcome.{Outcome, refused, done, refusal, Row, row, firstOf, delivered, NoneHolds, Given}
-use Rattle.slices.specs.Refusals.{listRows, checkOutcome, checked}
-use Rattle.outcomes.proofs.Laws.Outcome.{firstOf-append, row-holds, row-passes, done-fits, refused-exactly, answered-exactly}
-use Rattle.slices.proofs.Laws.Refusals.{check-lets, check-stops, list-stops, list-lets}
+use Rattle.outcomes.specs.Outcome.{refused, done, refusal, row, delivered, NoneHolds, Given}
+use Rattle.slices.specs.Refusals.{listRows, checkOutcome, checked, chunkTooLong}
+use Rattle.outcomes.proofs.Laws.Outcome.{row-holds, row-passes, done-fits, refused-exactly, answered-exactly}
+use Rattle.slices.proofs.Laws.Refusals.{list-stops, list-lets}
 use Rattle.views.specs.View.{tidiedBytes}
-use Rattle.slices.specs.Refusals.{chunkTooLong}
 use Rattle.views.specs.Calls.{maxTidied, tidiedTooLong, viewBytes, viewRows, viewOutcome, tidyRows, tidyOutcome}
 use Rattle.views.specs.Inner.{viewFrom}
 use Rattle.views.proofs.Laws.ViewFrom.{viewFrom-view, viewFrom-tidied}

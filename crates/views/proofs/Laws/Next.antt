@@ -10,14 +10,12 @@ use mathlib.Core.Logic.{_≢_, _⊎_, inl, inr}
 use mathlib.Core.List.{List, [], _∷_}
 use lib.Dec.{eqb}
 use borrow.Author.Tests.{eqb-true, eq-eqb}
-use Rattle.slices.specs.Cover.{cover, over, layer, given}
-use Rattle.runs.specs.Runs.{Run}
+use Rattle.slices.specs.Cover.{cover, over, layer, given, isNothing}
+use Rattle.runs.specs.Runs.{Run, Joins, IsRun}
 use Rattle.views.specs.View.{next}
-use Rattle.slices.specs.Cover.{isNothing}
 use Rattle.codec.specs.All.{All}
 use Rattle.views.specs.Inner.{shift}
 use Rattle.slices.proofs.Laws.Cover.{layer-in, layer-before, layer-after, given-zero, given-byte}
-use Rattle.runs.specs.Runs.{Joins, IsRun}
 use Rattle.slices.proofs.Laws.Tags.{OneOf}
 use Rattle.slices.specs.declared.Record.{Record}
 use Rattle.slices.specs.declared.Source.{Source}

@@ -1,39 +1,22 @@
 -- `compaction::ends::higher` meets its contract: at each `return` the tests that led there are known. Assumes nothing.
 use native.Mathlib.Omega.{arith}
-use mathlib.Core.Path.{sym, _∙_}
 use borrow.Author.Tests.{eq-eqb, ne-eqb}
 use Rattle.slices.specs.Limits.{chunk}
-use borrow.Author.Needs.{needs}
 use Rattle.compaction.proofs.ends.higher.Statement.{statement}
 use Rattle.compaction.proofs.ends.higher.Tie as tie
 
-read-len-requires : tie.Need-read-len-requires
-read-len-requires c κs = search needs
-
 returns : tie.Need-returns
-returns c = rw (eq-eqb _ 0 (sym (c .before .read-len .ensures) ∙ c .if1 .taken))
-
-read-pos-requires : tie.Need-read-pos-requires
-read-pos-requires c κs = search needs
+returns c = rw (eq-eqb _ 0 (c .if1 .taken))
 
 add-end : tie.Need-add-end
 unfolding chunk
-add-end c =
-    let len = c .before .before in
-    omega (arith, len .before .before .pre .1 .inside, len .read-len .ensures, c .read-pos .ensures)
+add-end c = omega arith
 
 returns-2 : tie.Need-returns-2
-returns-2 c =
-    let pos = c .before in
-    let len = pos .before .before in
-    rw (ne-eqb _ 0 (λ e. pos .before .if1 .left (len .read-len .ensures ∙ e))) (omega (arith, pos .read-pos .ensures, len .read-len .ensures, c .if2 .taken))
+returns-2 c = rw (ne-eqb _ 0 (c .before .if1 .left)) (omega arith)
 
 returns-3 : tie.Need-returns-3
-returns-3 c =
-    let pos = c .before in
-    let len = pos .before .before in
-    rw (ne-eqb _ 0 (λ e. pos .before .if1 .left (len .read-len .ensures ∙ e))) (omega (arith, pos .read-pos .ensures, len .read-len .ensures, c .if2 .left))
+returns-3 c = rw (ne-eqb _ 0 (c .before .if1 .left)) (omega arith)
 
 pub higher-spec : {M : Type 1} → statement M
-higher-spec =
-    tie.close (tie.spec read-len-requires returns read-pos-requires add-end returns-2 returns-3)
+higher-spec = tie.close (tie.spec returns add-end returns-2 returns-3)

@@ -1,6 +1,8 @@
 -- `plans::walk::count_pieces` meets its contract. The invariant: the pieces before p are counted. Assumes nothing.
 use Prim.Native.Nat.{_-_}
 use native.Mathlib.Omega.{arith}
+use mathlib.Core.Path.{ap, _∙_}
+use lib.ListN.{length}
 use Rattle.slices.specs.Record.{records}
 use Rattle.runs.proofs.Laws.Loops.{Counted, counted-start, counted-more, counted-end}
 use Rattle.plans.specs.Inner.{piecesLeft}
@@ -34,7 +36,9 @@ loop-again c =
     counted-more _ _ _ _ _ _ (c .before .before .loop .inv) (l .some) (l .inside) _ (left-more _ _ _ _ _ _ _ l)
 
 returns : tie.Need-returns Inv-loop μ-loop
-returns c = rw left-all at counted-end _ _ _ _ _ (c .before .loop .inv) (left-none _ _ _ _ _ (c .loop-test .left))
+returns c =
+    let h = counted-end _ _ _ _ _ (c .before .loop .inv) (left-none _ _ _ _ _ (c .loop-test .left)) in
+    (h .0 ∙ ap length (left-all _ _ _ _), h .1)
 
 pub count-pieces-spec : {M : Type 1} → statement M
 count-pieces-spec =

@@ -5,7 +5,7 @@ use native.Mathlib.Omega.{arith}
 use mathlib.Core.Path.{_≡_, sym, ap, _∙_}
 use denote.Ref.{now}
 use Rattle.slices.specs.Record.{count}
-use Rattle.slices.specs.Refusals.{checkOutcome, checked}
+use Rattle.slices.specs.Refusals.{checkOutcome}
 use Rattle.slices.specs.Inner.{fault}
 use Rattle.slices.specs.declared.Checked.the-variants.{Refused}
 use Rattle.slices.proofs.Laws.Refusals.{checkFrom, check-1, check-2, check-start, check-here, check-next, check-end}

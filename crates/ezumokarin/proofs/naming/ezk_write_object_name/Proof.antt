@@ -1,10 +1,10 @@
--- `ezumokarin::names::ezk_write_object_name` meets its contract: it passes the answer on. Assumes nothing.
+-- `ezumokarin::naming::ezk_write_object_name` meets its contract: it passes the answer on. Assumes nothing.
 use mathlib.Core.Path.{ap, _∙_}
 use Rattle.ezumokarin.specs.Plain.{plainAnswer}
 use Rattle.ezumokarin.proofs.Laws.{plain-wrote}
 use borrow.Author.Needs.{needs}
-use Rattle.ezumokarin.proofs.names.ezk_write_object_name.Statement.{statement}
-use Rattle.ezumokarin.proofs.names.ezk_write_object_name.Tie as tie
+use Rattle.ezumokarin.proofs.naming.ezk_write_object_name.Statement.{statement}
+use Rattle.ezumokarin.proofs.naming.ezk_write_object_name.Tie as tie
 
 write-object-name-requires : tie.Need-write-object-name-requires
 write-object-name-requires c κs = search needs

@@ -1,10 +1,10 @@
--- `ezumokarin::names::ezk_read_redis_key` meets its contract: it passes the answer on. Assumes nothing.
+-- `ezumokarin::naming::ezk_read_redis_key` meets its contract: it passes the answer on. Assumes nothing.
 use mathlib.Core.Path.{ap, _∙_}
 use Rattle.ezumokarin.specs.Names.{plainChunk}
 use Rattle.ezumokarin.proofs.Laws.{plain-chunk}
 use borrow.Author.Needs.{needs}
-use Rattle.ezumokarin.proofs.names.ezk_read_redis_key.Statement.{statement}
-use Rattle.ezumokarin.proofs.names.ezk_read_redis_key.Tie as tie
+use Rattle.ezumokarin.proofs.naming.ezk_read_redis_key.Statement.{statement}
+use Rattle.ezumokarin.proofs.naming.ezk_read_redis_key.Tie as tie
 
 read-redis-key-requires : tie.Need-read-redis-key-requires
 read-redis-key-requires c κs = search needs

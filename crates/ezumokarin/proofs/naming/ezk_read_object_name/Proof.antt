@@ -1,11 +1,11 @@
--- `ezumokarin::names::ezk_read_object_name` meets its contract: it passes the answer on. Assumes nothing.
+-- `ezumokarin::naming::ezk_read_object_name` meets its contract: it passes the answer on. Assumes nothing.
 use mathlib.Core.Path.{ap, _∙_}
 use Rattle.names.specs.declared.ObjectName.{ObjectName}
 use Rattle.ezumokarin.specs.Names.{plainObject}
 use Rattle.ezumokarin.proofs.Laws.{plain-object}
 use borrow.Author.Needs.{needs}
-use Rattle.ezumokarin.proofs.names.ezk_read_object_name.Statement.{statement}
-use Rattle.ezumokarin.proofs.names.ezk_read_object_name.Tie as tie
+use Rattle.ezumokarin.proofs.naming.ezk_read_object_name.Statement.{statement}
+use Rattle.ezumokarin.proofs.naming.ezk_read_object_name.Tie as tie
 
 read-object-name-requires : tie.Need-read-object-name-requires
 read-object-name-requires c κs = search needs

@@ -1,9 +1,9 @@
--- `ezumokarin::names::ezk_read_full_name` meets its contract: the object, and how long the volume name is. Assumes nothing.
+-- `ezumokarin::naming::ezk_read_full_name` meets its contract: the object, and how long the volume name is. Assumes nothing.
 use mathlib.Core.Path.{_∙_}
 use Rattle.ezumokarin.proofs.Laws.{plain-full}
 use borrow.Author.Needs.{needs}
-use Rattle.ezumokarin.proofs.names.ezk_read_full_name.Statement.{statement}
-use Rattle.ezumokarin.proofs.names.ezk_read_full_name.Tie as tie
+use Rattle.ezumokarin.proofs.naming.ezk_read_full_name.Statement.{statement}
+use Rattle.ezumokarin.proofs.naming.ezk_read_full_name.Tie as tie
 
 volume-of-requires : tie.Need-volume-of-requires
 volume-of-requires c κs = search needs

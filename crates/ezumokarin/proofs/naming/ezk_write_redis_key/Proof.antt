@@ -1,10 +1,10 @@
--- `ezumokarin::names::ezk_write_redis_key` meets its contract: it passes the answer on. Assumes nothing.
+-- `ezumokarin::naming::ezk_write_redis_key` meets its contract: it passes the answer on. Assumes nothing.
 use mathlib.Core.Path.{ap, _∙_}
 use Rattle.ezumokarin.specs.Plain.{plainAnswer}
 use Rattle.ezumokarin.proofs.Laws.{plain-wrote}
 use borrow.Author.Needs.{needs}
-use Rattle.ezumokarin.proofs.names.ezk_write_redis_key.Statement.{statement}
-use Rattle.ezumokarin.proofs.names.ezk_write_redis_key.Tie as tie
+use Rattle.ezumokarin.proofs.naming.ezk_write_redis_key.Statement.{statement}
+use Rattle.ezumokarin.proofs.naming.ezk_write_redis_key.Tie as tie
 
 write-redis-key-requires : tie.Need-write-redis-key-requires
 write-redis-key-requires c κs = search needs
