@@ -7,7 +7,8 @@ use Rattle.slices.specs.Cover.{cover, over}
 use Rattle.slices.proofs.Laws.Cover.{cover-append, over-assoc, over-nothing-left, over-nothing-right}
 use Rattle.slices.proofs.Laws.Record.{records-back}
 use Rattle.views.specs.View.{tidied, tidiedBytes}
-use Rattle.views.proofs.Laws.Tidied.{cover-replaced, tidied-same-bytes, tidied-fits}
+use Rattle.views.proofs.Laws.Fits.{tidied-fits}
+use Rattle.views.proofs.Laws.Tidied.{cover-replaced, tidied-same-bytes}
 use lib.ListN.{take}
 use Rattle.plans.specs.Piece.{piecesIn}
 use Rattle.plans.specs.Store.{Store}
