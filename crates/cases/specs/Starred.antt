@@ -1,11 +1,13 @@
--- The starred cases of paper 01 ("Takes we tried on paper"), as one table. What the paper leaves open is chosen here: the record of 24 bytes
--- is one of zeros, and the slice that is hidden in part is slice 7 of 16 bytes. Assumes nothing.
+-- The starred cases of paper 01 ("Takes we tried on paper"), as one table. What the paper leaves open is chosen here: the slice that is hidden in
+-- part is slice 7 of 16 bytes. Assumes nothing.
 use Prim.Native.Nat.{ℕ, _*_}
 use mathlib.Core.Path.{_≡_}
 use mathlib.Core.List.{List, [], _∷_}
-use lib.ListN.{length, replicate}
+use lib.ListN.{length}
+use Rattle.codec.specs.All.{All}
+use Rattle.slices.specs.Passes.{Passes}
 use Rattle.slices.specs.Limits.{recordSize}
-use Rattle.slices.specs.Record.{encodeAll}
+use Rattle.slices.specs.Record.{encodeAll, records}
 use Rattle.outcomes.specs.Numbers as number
 use Rattle.outcomes.specs.Outcome.{Outcome, refused, done, refusal}
 use Rattle.slices.specs.Refusals.{checkOutcome}
@@ -18,6 +20,10 @@ use Rattle.slices.specs.declared.Record.{Record}
 pub data Case : Type 0 where
   -- the check of a list's bytes
   checked : List ℕ → Outcome ℕ → Case
+  -- the check of every list of so many bytes
+  checkedAll : ℕ → Outcome ℕ → Case
+  -- the same, where its records pass
+  checkedPassing : ℕ → Outcome ℕ → Case
   -- the view of records for a chunk length, into a buffer that just holds it
   viewed : List Record → ℕ → List Record → Case
   -- the reading of a Redis key
@@ -28,6 +34,8 @@ pub data Case : Type 0 where
 -- what a case says of the definitions
 unfoldable pub Holds : Case → Type 0
 Holds (checked bs o) = checkOutcome bs ≡ o
+Holds (checkedAll n o) = (bs : List ℕ) → length bs ≡ n → checkOutcome bs ≡ o
+Holds (checkedPassing n o) = (bs : List ℕ) → length bs ≡ n → All Passes (records bs) → checkOutcome bs ≡ o
 Holds (viewed rs l runs) = viewOutcome (encodeAll rs) l (length runs * recordSize) ≡ done (encodeAll runs)
 Holds (keyRead key o) = readRedis key ≡ o
 Holds (named id block len name) = writeObject id block len (length name) ≡ done name
@@ -42,9 +50,9 @@ table =
     viewed [] 0 []
     ∷ viewed [] 5 (rec 0 0 5 0 5 ∷ [])
     -- 24 bytes accepted if the record is; 23 and 25 give 1
-    ∷ checked (replicate 24 0) (done 1)
-    ∷ checked (replicate 23 0) (refused (refusal number.notWhole 0))
-    ∷ checked (replicate 25 0) (refused (refusal number.notWhole 0))
+    ∷ checkedPassing 24 (done 1)
+    ∷ checkedAll 23 (refused (refusal number.notWhole 0))
+    ∷ checkedAll 25 (refused (refusal number.notWhole 0))
     -- zeros (id, size and off 0) at pos 67,108,863, len 1 pass; len 2 gives 3
     ∷ checked (encodeAll (rec 67108863 0 0 0 1 ∷ [])) (done 1)
     ∷ checked (encodeAll (rec 67108863 0 0 0 2 ∷ [])) (refused (refusal number.pastChunk 0))

@@ -1,6 +1,6 @@
 -- What `text` answers, case by case. Assumes nothing.
 use Prim.Native.Nat.{ℕ, _<_, _≤_}
-use mathlib.Core.Path.{_≡_}
+use mathlib.Core.Path.{_≡_, refl, ap, _∙_}
 use mathlib.Core.Bool.{Bool, true, false}
 use mathlib.Core.List.{List, _++_}
 use borrow.Author.Tests.{lt-ltb, le-ltb}
@@ -9,7 +9,11 @@ use Rattle.slices.specs.Record.{records}
 use Rattle.outcomes.specs.Numbers.{shortBuffer, tooMany}
 use Rattle.outcomes.specs.Outcome.{refused, done, refusal, firstOf}
 use Rattle.outcomes.proofs.Laws.Outcome.{row-holds}
+use Rattle.codec.specs.All.{Bytes}
+use Rattle.views.specs.View.{view}
 use Rattle.views.specs.Calls.{viewOutcome}
+use Rattle.views.proofs.Laws.ViewBack.{view-done-back}
+use Rattle.slices.specs.declared.Record.{Record}
 use Rattle.listing.specs.Listing.{fileLimit, header, lines, refusedLine, textOf, listing}
 use Rattle.listing.specs.Calls.{textRoom, textOutcome}
 use Rattle.outcomes.specs.declared.Refusal.{Refusal}
@@ -35,3 +39,7 @@ module _ (longer : Bool) (bs : List ℕ) where
     pub listing-view : (vs : List ℕ) → viewOutcome bs chunk fileLimit ≡ done vs → listing longer bs ≡ header ++ lines (records vs)
     unfolding listing textOf
     listing-view vs e = rw (h, e)
+
+-- the lines of an accepted list are those of its view's records
+pub listing-prints : (bs : List ℕ) → Bytes bs → (vs : List ℕ) → viewOutcome bs chunk fileLimit ≡ done vs → listing false bs ≡ header ++ lines (view (records bs) chunk)
+listing-prints bs b vs e = listing-view false bs refl vs e ∙ ap (λ (rs : List Record). header ++ lines rs) (view-done-back bs b chunk fileLimit vs e)

@@ -7,7 +7,7 @@ use lib.ListN.{length, take}
 use borrow.Author.Tests.{ltb-false}
 use Rattle.codec.specs.All.{All, Bytes}
 use Rattle.codec.proofs.Laws.All.{all-left}
-use Rattle.outcomes.specs.Outcome.{Row}
+use Rattle.outcomes.specs.Outcome.{done, Row}
 use Rattle.outcomes.specs.Answers.{Answers, Front}
 use Rattle.outcomes.proofs.Laws.Outcome.{done-none, done-is}
 use Rattle.outcomes.proofs.Laws.Answers.{said-wrote}
@@ -38,24 +38,35 @@ module _ (bs : List ℕ) (b : Bytes bs) where
   unfolding viewBytes
   view-back p l h = records-back (view (records bs) l) (view-records-fit (records bs) p (records-fit bs b) l h)
 
+  -- a view is written only of an accepted list, for a chunk length that is allowed
+  pub view-done : (l room : ℕ) (vs : List ℕ) → viewOutcome bs l room ≡ done vs → Accepts bs × (l ≤ chunk) × (vs ≡ viewBytes bs l)
+  unfolding viewOutcome viewRows chunkTooLong
+  view-done l room vs e =
+      let none = done-none (viewBytes bs l) (viewRows bs l room) vs e in
+      (
+        none-accepts bs (all-left (λ (r : Row). r .test ≡ false) (listRows bs) _ (none .1)),
+        ltb-false chunk l (none .0),
+        done-is (viewBytes bs l) (viewRows bs l room) vs e,
+      )
+
+  pub view-done-back : (l room : ℕ) (vs : List ℕ) → viewOutcome bs l room ≡ done vs → records vs ≡ view (records bs) l
+  view-done-back l room vs e =
+      let d = view-done l room vs e in
+      ap records (d .2) ∙ view-back (d .0 .pass) l (d .1)
+
+  -- where the call succeeds, the list is accepted, and the view's bytes are those that it wrote, as many as it counted: read back they are the
+  -- view, and give each position its source
   module _ (l : ℕ) (before after : List ℕ) (n : ℕ) (a : Answers (viewOutcome bs l (length before)) before (Wrote n) after) where
-    -- where the call succeeds, the list is accepted, and the view's bytes are those that it wrote, as many as it counted
-    pub view-wrote : Accepts bs × (l ≤ chunk) × Front (viewBytes bs l) n after
-    unfolding viewOutcome viewRows chunkTooLong
+    pub view-wrote : Accepts bs × Front (viewBytes bs l) n after
     view-wrote =
         let w = said-wrote (viewOutcome bs l (length before)) before after n a in
-        let rows = viewRows bs l (length before) in
-        let none = done-none (viewBytes bs l) rows (w .bytes) (w .outcome) in
-        (
-          none-accepts bs (all-left (λ (r : Row). r .test ≡ false) (listRows bs) _ (none .1)),
-          ltb-false chunk l (none .0),
-          rw (done-is (viewBytes bs l) rows (w .bytes) (w .outcome)) at (w .first),
-        )
+        let d = view-done l (length before) (w .bytes) (w .outcome) in
+        (d .0, rw (d .2) at (w .first))
 
-    -- they are read back as the view
     pub view-wrote-back : records (take n after) ≡ view (records bs) l
-    view-wrote-back = ap records (view-wrote .2 .front) ∙ view-back (view-wrote .0 .pass) l (view-wrote .1)
+    view-wrote-back =
+        let w = said-wrote (viewOutcome bs l (length before)) before after n a in
+        ap records (w .first .front) ∙ view-done-back l (length before) (w .bytes) (w .outcome)
 
-    -- and give each position its source
     pub view-wrote-source : (p : ℕ) → p < l → sourceIn (records (take n after)) p ≡ cover (records bs) p
     view-wrote-source p h = rw view-wrote-back (view-source (records bs) (view-wrote .0 .pass) l p h)
