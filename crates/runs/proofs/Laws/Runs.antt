@@ -4,16 +4,12 @@ use Prim.Native.Nat.{ℕ, zero, suc, pred, _+_, _-_, _<_, _≤_}
 use native.Mathlib.Omega.{arith}
 use native.Mathlib.Nat.{add-suc, suc-add, eq-or-lt-of-le}
 use native.Mathlib.Numerals.{add-one}
-use native.Mathlib.Decide.{decLe}
-use mathlib.Core.Logic.{_⊎_, inl, inr, ⊎-elim}
+use mathlib.Core.Logic.{⊎-elim}
 use mathlib.Core.Bool.{Bool, true, false, cond}
 use mathlib.Core.Path.{_≡_, refl, sym, ap, _∙_}
 use mathlib.Core.List.{List, [], _∷_, _++_, map}
 use Rattle.runs.specs.Inner.{earlier}
 use Rattle.runs.specs.Runs.{Run, Joins, Parts, IsRun, Valid, join, runs}
-
-le-or-lt : (a b : ℕ) → (a ≤ b) ⊎ (b < a)
-le-or-lt a b = elim (decLe a b) [ yes h ↦ inl h | no h ↦ inr (omega arith) ]
 
 module _ {A : Type 0} (next : A → A → Bool) where
   -- equal functions have equal runs; only the values inside the range count
@@ -137,48 +133,6 @@ module _ {A : Type 0} (next : A → A → Bool) where
       (valid-unique f at (n + m) (at + n + m) (omega arith) (runs next f at n ++ runs next f (at + n) m)
       (valid-append f at (at + n) (at + n + m) (runs next f at n) (runs next f (at + n) m) apart
       (runs-valid f at n (at + n) refl) (runs-valid f (at + n) m (at + n + m) refl)))
-
-  -- a segment that does not join the run before it is a run of its own
-  pub runs-apart : (f : ℕ → A) (at n m : ℕ) → 0 < m
-      → ((p : ℕ) → at ≤ p → suc p ≡ at + n → Parts next f p)
-      → ((p : ℕ) → at + n ≤ p → suc p < at + n + m → Joins next f p)
-      → runs next f at (n + m) ≡ runs next f at n ++ (record { start = at + n; len = m; first = f (at + n) } ∷ [])
-  runs-apart f at n m h apart inside =
-      runs-append f at n m apart
-      ∙ ap (λ (rs : List (Run A)). runs next f at n ++ rs)
-      (sym
-      (valid-unique f (at + n) m (at + n + m) refl (record { start = at + n; len = m; first = f (at + n) } ∷ [])
-      (record { starts = refl; some = h; first-is = refl; inside = inside }, (λ p a b. absurd (omega arith)), refl)))
-
-  valid-lt : (f : ℕ → A) (at end : ℕ) (rs : List (Run A)) (r : Run A) → Valid next f at end (rs ++ (r ∷ [])) → at < end
-  valid-lt f at end [] r v = omega arith
-  valid-lt f at end (x ∷ rs) r v = omega (arith, valid-lt f (at + x .len) end rs r (v .2))
-
-  valid-longer : (f : ℕ → A) (at mid m : ℕ) (rs : List (Run A)) (r : Run A)
-      → ((p : ℕ) → mid ≤ suc p → suc p < mid + m → Joins next f p)
-      → Valid next f at mid (rs ++ (r ∷ [])) → Valid next f at (mid + m) (rs ++ (record { start = r .start; len = r .len + m; first = r .first } ∷ []))
-  valid-longer f at mid m [] r inside v = (
-    record {
-      starts = v .0 .starts;
-      some = omega arith;
-      first-is = v .0 .first-is;
-      inside = λ p a b.
-          ⊎-elim (λ (l : mid ≤ suc p). inside p l (omega arith)) (λ (l : suc p < mid). v .0 .inside p a (omega arith)) (le-or-lt mid (suc p));
-    },
-    (λ p a b. absurd (omega arith)),
-    omega arith,
-  )
-  valid-longer f at mid m (x ∷ rs) r inside v =
-      (v .0, (λ p a b. v .1 p a (valid-lt f (at + x .len) mid rs r (v .2))), valid-longer f (at + x .len) mid m rs r inside (v .2))
-
-  -- a segment that joins the run before it makes that run longer
-  pub runs-joined : (f : ℕ → A) (at n m : ℕ) (rs : List (Run A)) (r : Run A) → runs next f at n ≡ rs ++ (r ∷ [])
-      → ((p : ℕ) → at + n ≤ suc p → suc p < at + n + m → Joins next f p)
-      → runs next f at (n + m) ≡ rs ++ (record { start = r .start; len = r .len + m; first = r .first } ∷ [])
-  runs-joined f at n m rs r e inside =
-      sym
-      (valid-unique f at (n + m) (at + n + m) (omega arith) (rs ++ (record { start = r .start; len = r .len + m; first = r .first } ∷ []))
-      (valid-longer f at (at + n) m rs r inside (rw e at (runs-valid f at n (at + n) refl))))
 
 -- ---- positions counted from elsewhere
 
