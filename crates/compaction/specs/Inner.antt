@@ -1,4 +1,4 @@
--- What the steps of the code find. Assumes nothing.
+-- Inner: what the steps of the code find. It serves the contracts of inner functions alone. Assumes nothing.
 use Prim.Native.Nat.{ℕ, _+_, _-_, _≤_, min, max}
 use mathlib.Core.Path.{_≡_}
 use mathlib.Core.Bool.{cond}

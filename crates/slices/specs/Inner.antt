@@ -1,4 +1,4 @@
--- What the steps of the code find. Assumes nothing.
+-- Inner: what the steps of the code find. It serves the contracts of inner functions alone. Assumes nothing.
 use Prim.Native.Nat.{ℕ}
 use mathlib.Core.Bool.{cond}
 use Rattle.outcomes.specs.Numbers as number

@@ -18,7 +18,7 @@ pub fn read_pos(list: &[u8], i: usize) -> u32
 }
 
 // The id of record i.
-pub fn read_id(list: &[u8], i: usize) -> u64
+pub(crate) fn read_id(list: &[u8], i: usize) -> u64
     requires { ⌜ i * recordSize + recordSize ≤ length (now list) ⌝ }
     ensures { λ r. ⌜ r ≡ recordAt (now (list .entry)) i .id ⌝ }
 {

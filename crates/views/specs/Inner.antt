@@ -1,4 +1,4 @@
--- What the steps of a walk over the positions find. Assumes nothing.
+-- Inner: what the steps of a walk over the positions find. It serves the contracts of inner functions alone. Assumes nothing.
 use Prim.Native.Nat.{ℕ, _+_, _-_, _≤_}
 use mathlib.Core.Bool.{Bool, true, false, not}
 use mathlib.Core.List.{List, map}

@@ -1,11 +1,11 @@
 -- The store that copying makes: each byte of the new slice that a piece holds is what the pieces fetch for it, and every other byte stays.
 -- Assumes nothing.
-use Prim.Native.Nat.{ℕ, zero, suc, _+_, _-_, _<_}
+use Prim.Native.Nat.{ℕ, zero, suc, _+_, _-_, _*_, _<_}
 use native.Mathlib.Omega.{arith}
 use native.Mathlib.Decide.{decLt, ℕ-discrete}
-use mathlib.Core.Path.{_≡_, refl, sym, _∙_}
+use mathlib.Core.Path.{_≡_, refl, sym, ap, _∙_}
 use mathlib.Core.Bool.{cond, _&&_}
-use mathlib.Core.Logic.{_⊎_, inl, inr}
+use mathlib.Core.Logic.{_⊎_, inl, inr, ⊎-elim}
 use mathlib.Core.List.{List, [], _∷_}
 use lib.Dec.{leb, ltb}
 use borrow.Author.Tests.{le-leb, lt-leb, le-ltb}
@@ -14,9 +14,10 @@ use Rattle.plans.specs.Location.{location, onward}
 use Rattle.plans.specs.Store.{Store, fetch, fetched}
 use Rattle.plans.proofs.Laws.Bytes.{fetched-here}
 use Rattle.copying.specs.Copy.{Holds, Held, Copies, put, setBytes, copy}
-use Rattle.copying.proofs.Laws.Store.{put-at, put-other, location-inj}
+use Rattle.copying.proofs.Laws.Store.{put-at, put-other, location-inj, location-dec, offset-is}
 use Rattle.slices.specs.declared.Source.the-variants.{Byte}
 use Rattle.plans.specs.declared.Location.{Location}
+use Rattle.plans.specs.declared.Location.the-variants.{Hole, In}
 
 holds-dec : (r : Run Location) (o : ℕ) → Dec (Holds r o)
 holds-dec r o = go (decLt o (r .start)) (decLt o (r .start + r .len))
@@ -95,3 +96,33 @@ module _ (B id size : ℕ) (before : Store) where
 
   pub copy-copies : (rs : List (Run Location)) → Copies B id size rs before (copy B id size before rs)
   copy-copies rs = record { sets = sets rs; stays = stays rs }
+
+-- ---- there is one such store
+
+held-dec : (rs : List (Run Location)) (o : ℕ) → Dec (Held rs o)
+held-dec [] o = no (λ h. h)
+held-dec (r ∷ rs) o = go (holds-dec r o) (held-dec rs o)
+  where
+    go : Dec (Holds r o) → Dec (Held rs o) → Dec (Holds r o ⊎ Held rs o)
+    go (yes h) k = yes (inl h)
+    go (no h) (yes k) = yes (inr k)
+    go (no h) (no k) = no (λ e. ⊎-elim h k e)
+
+-- two stores that copying turns one store into give the same byte everywhere
+pub copies-once : (B id size : ℕ) (plan : List (Run Location)) (before one two : Store) → Copies B id size plan before one → Copies B id size plan before two
+    → (q : Location) → fetch one q ≡ fetch two q
+unfolding fetch
+copies-once B id size plan before one two c d Hole = refl
+copies-once B id size plan before one two c d (In i b l a) = go (held-dec plan o) (location-dec (In i b l a) (location B (Byte id size o)))
+  where
+    -- the only offset that can lie there
+    o : ℕ
+    o = b * B + a
+
+    apart : ¬ (Held plan o × (In i b l a ≡ location B (Byte id size o))) → (u : ℕ) → Held plan u → ¬ (In i b l a ≡ location B (Byte id size u))
+    apart n u h e = let s : u ≡ o = offset-is B id size u i b l a e in n (rw s at h, rw s at e)
+
+    go : Dec (Held plan o) → Dec (In i b l a ≡ location B (Byte id size o)) → fetch one (In i b l a) ≡ fetch two (In i b l a)
+    go (yes h) (yes e) = ap (fetch one) e ∙ c .sets o h ∙ sym (d .sets o h) ∙ sym (ap (fetch two) e)
+    go (yes h) (no e) = c .stays (In i b l a) (apart (λ p. e (p .1))) ∙ sym (d .stays (In i b l a) (apart (λ p. e (p .1))))
+    go (no h) k = c .stays (In i b l a) (apart (λ p. h (p .0))) ∙ sym (d .stays (In i b l a) (apart (λ p. h (p .0))))

@@ -1,8 +1,9 @@
 -- Setting one byte of a store: it is read back, every other byte stays, and two bytes of one slice never share a place. Assumes nothing.
-use Prim.Native.Nat.{ℕ, _/_, _%_}
+use Prim.Native.Nat.{ℕ, _+_, _*_, _/_, _%_}
+use native.Mathlib.Omega.{arith}
 use native.Mathlib.Nat.{div-add-mod'}
-use mathlib.Core.Path.{_≡_, refl}
-use mathlib.Core.Bool.{Bool, true, false, cond, _&&_}
+use mathlib.Core.Path.{_≡_, refl, sym, _∙_}
+use mathlib.Core.Bool.{Bool, true, false, cond, _&&_, false≢true}
 use lib.Dec.{eqb}
 use borrow.Author.Tests.{eqb-true, eq-eqb}
 use Rattle.views.proofs.Laws.Next.{and-both}
@@ -44,3 +45,27 @@ put-other (In i b l a) (In j c m t) v st ne = go (eqb j i && (eqb c b && (eqb m 
 pub location-inj : (B id size o u : ℕ) → location B (Byte id size o) ≡ location B (Byte id size u) → o ≡ u
 unfolding location
 location-inj B id size o u e = cc (div-add-mod' o B, div-add-mod' u B)
+
+-- a location tells the offset of a slice that lies there
+pub offset-is : (B id size u i b l a : ℕ) → In i b l a ≡ location B (Byte id size u) → u ≡ b * B + a
+unfolding location
+offset-is B id size u i b l a e = cc (div-add-mod' u B)
+
+-- whether two locations are one
+pub location-dec : (p q : Location) → Dec (p ≡ q)
+location-dec Hole Hole = yes refl
+location-dec Hole (In i b l a) = no (λ e. let z : _≡_ {A = ℕ} 0 1 = cc in omega arith)
+location-dec (In j c m t) Hole = no (λ e. let z : _≡_ {A = ℕ} 0 1 = cc in omega arith)
+location-dec (In j c m t) (In i b l a) = go (eqb j i && (eqb c b && (eqb m l && eqb t a))) refl
+  where
+    go : (x : Bool) → (eqb j i && (eqb c b && (eqb m l && eqb t a))) ≡ x → Dec (In j c m t ≡ In i b l a)
+    go true e = yes (same-location i b l a j c m t e)
+    go false e = no (λ h. absurd (false≢true (sym e ∙ tested h)))
+      where
+        tested : In j c m t ≡ In i b l a → (eqb j i && (eqb c b && (eqb m l && eqb t a))) ≡ true
+        tested h =
+            let k₁ : j ≡ i = cc in
+            let k₂ : c ≡ b = cc in
+            let k₃ : m ≡ l = cc in
+            let k₄ : t ≡ a = cc in
+            rw (eq-eqb j i k₁, eq-eqb c b k₂, eq-eqb m l k₃, eq-eqb t a k₄)

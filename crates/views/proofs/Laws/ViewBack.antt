@@ -42,8 +42,7 @@ module _ (bs : List ℕ) (b : Bytes bs) where
   pub view-done : (l room : ℕ) (vs : List ℕ) → viewOutcome bs l room ≡ done vs → Accepts bs × (l ≤ chunk) × (vs ≡ viewBytes bs l)
   unfolding viewOutcome viewRows chunkTooLong
   view-done l room vs e =
-      let none = done-none (viewBytes bs l) (viewRows bs l room) vs e in
-      (
+      let none = done-none (viewBytes bs l) (viewRows bs l room) vs e in (
         none-accepts bs (all-left (λ (r : Row). r .test ≡ false) (listRows bs) _ (none .1)),
         ltb-false chunk l (none .0),
         done-is (viewBytes bs l) (viewRows bs l room) vs e,
