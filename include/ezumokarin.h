@@ -12,7 +12,8 @@
  *
  * Refusals. `place` is the place of the record in its list, counted from 0, for 3 to 6;
  * for all others it is 0. Where several fit, the first in this order is given:
- * 7, 8, 1, 2, the first bad record and in it 3, 4, 5, 6; then 10, 9, 13, 11, 12.
+ * 7, 8, 1, 2, then the first bad record and in it 3, 4, 5, 6; then 10, 9, 13, 11, 12.
+ * A block size is allowed if it is a power of two from 65,536 to 16,777,216.
  *
  *   EZK_LIST_LENGTH     1  list length is no multiple of 24
  *   EZK_LIST_RECORDS    2  more than 1,024 records
@@ -21,12 +22,14 @@
  *   EZK_ZERO_RECORD     5  id 0 with size or off other than 0
  *   EZK_SLICE_END       6  id not 0 and off + len above size
  *   EZK_CHUNK_LENGTH    7  chunk length above 64 MiB
- *   EZK_BLOCK_SIZE      8  block size not allowed: not a power of two from 65,536 to 16,777,216
+ *   EZK_BLOCK_SIZE      8  block size not allowed
  *   EZK_NEW_ID          9  new id is 0 or stands in any record of the list, empty ones included
  *   EZK_FIRST_RECORDS  10  k above the number of records
  *   EZK_TIDIED_RECORDS 11  tidied list above 1,024 records
- *   EZK_BUFFER         12  an output buffer shorter than its answer (either, in compaction)
- *   EZK_FORM           13  a name or key not of its form, or numbers that the form doesn't allow
+ *   EZK_BUFFER         12  an output buffer shorter than its answer (either of the two, in
+ *                          compaction)
+ *   EZK_FORM           13  a name or key not of its form, or numbers to be written that the
+ *                          form doesn't allow
  */
 #ifndef EZUMOKARIN_H
 #define EZUMOKARIN_H
