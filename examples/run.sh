@@ -1,5 +1,5 @@
 #!/bin/sh
-# Builds and runs both examples and compares what they print with the expected table.
+# Builds and runs the examples and compares what they print with what is expected.
 # run.sh [folder]: the folder that holds libezumokarin.a, by default dist/ of the project.
 set -eu
 here=$(cd "$(dirname "$0")" && pwd)
@@ -17,11 +17,38 @@ pos id size off len
 41943040 0 25165824 0 25165824
 TABLE
 
-cc -std=c99 -Wall -Wextra -Werror -I"$here/../include" "$here/view.c" "$dist/libezumokarin.a" \
-    -o "$work/view"
-"$work/view" > "$work/from_c"
-diff "$work/expected" "$work/from_c"
-echo "view.c: as expected"
+# By hand, from the requirements. The first three records are slice 1 (70,000 bytes, from offset 50) from 100, five zeros from 110, and slice 2 (20 bytes)
+# from 70,040. They cover 100 to 70,059, so the new slice has 69,960 bytes, in blocks of 65,536 and 4,424. Slice 1 has blocks of 65,536 and 4,464; the second
+# starts at position 65,586, which is place 65,486. Byte o of slice i is 60 i + o % 60. The bytes printed are those at 97 (uncovered), 98 and 101 (slice 3, offsets
+# 0 and 3), 102 (slice 1, offset 52), 110 (a zero), 115, 65,586, 65,636 and 70,039 (slice 1, offsets 65, 65,536, 65,586 and 69,989), 70,040 (slice 2, offset 0)
+# and 70,060 (uncovered).
+cat > "$work/compacted" <<'TEXT'
+old list reads 0 180 183 112 0 65 76 66 89 120 0
+RB 0 10
+RZ 10 5
+RB 15 65471
+RB 65486 4454
+RB 69940 20
+chunks/0/0/1_0_65536
+chunks/0/0/1_1_4464
+chunks/0/0/2_0_20
+chunks/0/0/3_0_4
+chunks/0/0/4_0_65536
+chunks/0/0/4_1_4424
+new list reads 0 180 183 112 0 65 76 66 89 120 0
+both read the same bytes
+TEXT
+
+# example NAME EXPECTED
+example() {
+    cc -std=c99 -O1 -Wall -Wextra -Werror -I"$here/../include" "$here/$1.c" "$dist/libezumokarin.a" \
+        -o "$work/$1"
+    "$work/$1" > "$work/from_c"
+    diff "$2" "$work/from_c"
+    echo "$1.c: as expected"
+}
+example view "$work/expected"
+example compact "$work/compacted"
 
 # Python needs a shared library; without one in the folder it is made from the archive.
 shared=$dist/libezumokarin.so

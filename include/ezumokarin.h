@@ -12,7 +12,8 @@
  *
  * Refusals. `place` is the place of the record in its list, counted from 0, for 3 to 6;
  * for all others it is 0. Where several fit, the first in this order is given:
- * 7, 8, 1, 2, the first bad record and in it 3, 4, 5, 6; then 10, 9, 13, 11, 12.
+ * 7, 8, 1, 2, then the first bad record and in it 3, 4, 5, 6; then 10, 9, 13, 11, 12.
+ * A block size is allowed if it is a power of two from 65,536 to 16,777,216.
  *
  *   EZK_LIST_LENGTH     1  list length is no multiple of 24
  *   EZK_LIST_RECORDS    2  more than 1,024 records
@@ -21,12 +22,14 @@
  *   EZK_ZERO_RECORD     5  id 0 with size or off other than 0
  *   EZK_SLICE_END       6  id not 0 and off + len above size
  *   EZK_CHUNK_LENGTH    7  chunk length above 64 MiB
- *   EZK_BLOCK_SIZE      8  block size not allowed: not a power of two from 65,536 to 16,777,216
+ *   EZK_BLOCK_SIZE      8  block size not allowed
  *   EZK_NEW_ID          9  new id is 0 or stands in any record of the list, empty ones included
  *   EZK_FIRST_RECORDS  10  k above the number of records
  *   EZK_TIDIED_RECORDS 11  tidied list above 1,024 records
- *   EZK_BUFFER         12  an output buffer shorter than its answer (either, in compaction)
- *   EZK_FORM           13  a name or key not of its form, or numbers that the form doesn't allow
+ *   EZK_BUFFER         12  an output buffer shorter than its answer (either of the two, in
+ *                          compaction)
+ *   EZK_FORM           13  a name or key not of its form, or numbers to be written that the
+ *                          form doesn't allow
  */
 #ifndef EZUMOKARIN_H
 #define EZUMOKARIN_H
@@ -69,10 +72,16 @@ enum {
  * 0; any other id is slice bytes from slice offset off on, of a slice of size bytes.
  * Records stand in order of writing; a later one wins.
  *
+ * Slices are stored in blocks, and one block size B holds for a whole volume. Slice offset o
+ * lies in block o / B at place o % B. Block i of a slice of size bytes has min(B, size - i * B)
+ * bytes, its block length, and is the object that ezk_write_object_name names for the id, i
+ * and the block length.
+ *
  * A piece of a plan has 30 bytes: a mark of two bytes, "RB" for an object or "RZ" for
  * zeros, then big-endian: place from the start of the read (4), id (8), block (4), block
  * length (4), place in block (4), length (4). For "RZ" the id, block, block length and
- * place in block are 0.
+ * place in block are 0. Byte j of a piece, from 0 up to its length, is byte place in block + j
+ * of the object (id, block, block length), or 0 for "RZ". It is byte place + j of the read.
  */
 
 /* In all structs: refusal is 0 on success, and fields without meaning are 0. */
@@ -144,9 +153,18 @@ ezk_answer ezk_read_plan(const uint8_t *list, size_t list_len, uint64_t chunk_le
 
 /*
  * Writes the plan that copies the first k records into the new slice new_id, and the new
- * list: one record in their stead, and the remaining records. If the first k records cover
- * nothing, the plan is empty and the new list is the remaining records. The new list takes
- * effect only once the plan has been copied into the objects of the new slice.
+ * list. With p the first and q the last position that the first k records cover, the plan is
+ * that of a read of p to q from them, and the new list is one record (pos p, id new_id, size
+ * and len q - p + 1, off 0) and the remaining records. If the first k records cover nothing,
+ * the plan is empty and the new list is the remaining records.
+ *
+ * To carry the plan out: a piece's place is an offset in the new slice, which has q - p + 1
+ * bytes. Byte j of a piece at place s goes to slice offset s + j, and so into block
+ * (s + j) / block_size of the new slice at (s + j) % block_size, by the rule of blocks above;
+ * a piece may go over the end of a block of the new slice. The bytes are those of the store
+ * as it was before; no piece reads the new slice, so the pieces may be copied in any order.
+ * Store the new list only once the whole new slice is stored. From then on the old list and
+ * the new one read the same bytes, also with the same records appended to both.
  * Refusals, in order: 8, 1, 2, 3 to 6, 10, 9, 12.
  */
 ezk_compacted ezk_compact(const uint8_t *list, size_t list_len, uint64_t block_size,

@@ -1,4 +1,5 @@
 // Prints the view of the slice list in the file list.bin, or why there is none.
+use libc::STDERR_FILENO;
 use libc::STDOUT_FILENO;
 use outcomes::Answer;
 ghost use lib.ListN.{length};
@@ -47,11 +48,19 @@ fn text_buffer() -> [u8; listing::TEXT]
     [0; listing::TEXT]
 }
 
+// Writes a text to standard output. A program has no exit status, so where not all of it could be written, a line on standard error says so.
+fn put(text: &[u8]) {
+    if io::write_all(STDOUT_FILENO, text) {
+        return;
+    }
+    io::write_all(STDERR_FILENO, b"not all of the view could be written\n");
+}
+
 // Prints the listing of a list, by way of a buffer for its text.
 fn print(list: &[u8], longer: bool, text: &mut [u8]) {
     if let Answer::Wrote(n) = listing::text(list, longer, text) {
         if n <= text.len() {
-            io::write_all(STDOUT_FILENO, &text[..n]);
+            put(&text[..n]);
         }
     }
 }
@@ -59,7 +68,7 @@ fn print(list: &[u8], longer: bool, text: &mut [u8]) {
 fn main() {
     let fd = os::open_read(b"list.bin");
     if fd < 0 {
-        io::write_all(STDOUT_FILENO, b"no list\n");
+        put(b"no list\n");
         return;
     }
     let mut list = io::large_buffer();
@@ -69,8 +78,6 @@ fn main() {
     match input {
         Input::Whole(n) => print(&list[..n], false, &mut text),
         Input::Longer => print(&list, true, &mut text),
-        Input::Failed => {
-            io::write_all(STDOUT_FILENO, b"no list\n");
-        }
+        Input::Failed => put(b"no list\n"),
     }
 }

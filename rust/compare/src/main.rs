@@ -1,12 +1,16 @@
-//! `compare [calls] [seed]`: every call of the archive against the second program.
+//! `compare [calls] [seed]`: every call of the archive against the second program, each made
+//! through the Rust crate and through C compiled from the header; and the header's constants.
 //!
 //! Prints what was compared and how many differences were found; the exit status is 1 if
 //! there was one. The same seed makes the same calls.
 
+mod binding;
 mod call;
 mod cases;
 mod combinations;
+mod constants;
 mod expected;
+mod header;
 mod lent;
 mod lists;
 mod mutate;
@@ -30,6 +34,7 @@ fn main() {
     let seed = number(arguments.next(), SEED);
     println!("seed {seed}");
     let mut tally = Tally::default();
+    constants::run(&mut tally);
     for call in cases::all() {
         tally.compare("papers and limits", &call);
     }

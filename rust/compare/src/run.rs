@@ -1,10 +1,11 @@
-//! Makes one call both ways and says what differs.
+//! Makes one call through a binding of the archive and by the second program, and says what differs.
 
 use std::fmt::Debug;
 
-use ezumokarin::sys::{self, ezk_answer, ezk_compacted};
+use ezumokarin::sys::{ezk_answer, ezk_compacted};
 use second::Refusal;
 
+use crate::binding::Binding;
 use crate::call::{Call, Room};
 use crate::expected::{answered, chunk_key, compacted, object};
 use crate::lent::Lent;
@@ -19,59 +20,61 @@ pub struct Seen {
 }
 
 /// `shift` moves the lent memory, so that no alignment is special.
-pub fn run(call: &Call, shift: usize) -> Seen {
+pub fn run(binding: &Binding, call: &Call, shift: usize) -> Seen {
     match call {
         Call::Check { list } => {
-            reading(list, shift, sys::check, |list| answered(second::check(list)))
+            reading(list, shift, binding.check, |list| answered(second::check(list)))
         }
         Call::View { list, chunk_len, out } => {
             let want = second::view_bytes(list, *chunk_len);
-            writing(list, want, *out, shift, |list, out| sys::view(list, *chunk_len, out))
+            writing(list, want, *out, shift, |list, out| (binding.view)(list, *chunk_len, out))
         }
-        Call::Tidy { list, out } => writing(list, second::tidy_bytes(list), *out, shift, sys::tidy),
+        Call::Tidy { list, out } => {
+            writing(list, second::tidy_bytes(list), *out, shift, binding.tidy)
+        }
         Call::ReadPlan { list, chunk_len, block_size, start, count, out } => {
             let want = second::read_plan_bytes(list, *chunk_len, *block_size, *start, *count);
             writing(list, want, *out, shift, |list, out| {
-                sys::read_plan(list, *chunk_len, *block_size, *start, *count, out)
+                (binding.read_plan)(list, *chunk_len, *block_size, *start, *count, out)
             })
         }
         Call::Compact { list, block_size, k, new_id, plan, new_list } => {
             let want = second::compact_bytes(list, *block_size, *k, *new_id);
             compacting(list, want, (*plan, *new_list), shift, |list, plan, new_list| {
-                sys::compact(list, *block_size, *k, *new_id, plan, new_list)
+                (binding.compact)(list, *block_size, *k, *new_id, plan, new_list)
             })
         }
         Call::WriteObjectName { id, block, length, out } => {
             let want = second::object_name(*id, *block, *length);
             writing(&[], want, *out, shift, |_, out| {
-                sys::write_object_name(*id, *block, *length, out)
+                (binding.write_object_name)(*id, *block, *length, out)
             })
         }
         Call::WriteFullName { volume, id, block, length, out } => {
             let want = second::full_name(volume, *id, *block, *length);
             writing(volume, want, *out, shift, |volume, out| {
-                sys::write_full_name(volume, *id, *block, *length, out)
+                (binding.write_full_name)(volume, *id, *block, *length, out)
             })
         }
         Call::WriteRedisKey { inode, index, out } => {
             let want = second::redis_key(*inode, *index);
-            writing(&[], want, *out, shift, |_, out| sys::write_redis_key(*inode, *index, out))
+            writing(&[], want, *out, shift, |_, out| (binding.write_redis_key)(*inode, *index, out))
         }
         Call::WriteTkvKey { inode, index, out } => {
             let want = second::tkv_key(*inode, *index);
-            writing(&[], want, *out, shift, |_, out| sys::write_tkv_key(*inode, *index, out))
+            writing(&[], want, *out, shift, |_, out| (binding.write_tkv_key)(*inode, *index, out))
         }
-        Call::ReadObjectName { name } => reading(name, shift, sys::read_object_name, |name| {
+        Call::ReadObjectName { name } => reading(name, shift, binding.read_object_name, |name| {
             object(second::read_object_name(name), b"")
         }),
-        Call::ReadFullName { name } => reading(name, shift, sys::read_full_name, |name| {
+        Call::ReadFullName { name } => reading(name, shift, binding.read_full_name, |name| {
             object(second::read_full_name(name), second::volume_of(name))
         }),
-        Call::ReadRedisKey { key } => {
-            reading(key, shift, sys::read_redis_key, |key| chunk_key(second::read_redis_key(key)))
-        }
+        Call::ReadRedisKey { key } => reading(key, shift, binding.read_redis_key, |key| {
+            chunk_key(second::read_redis_key(key))
+        }),
         Call::ReadTkvKey { key } => {
-            reading(key, shift, sys::read_tkv_key, |key| chunk_key(second::read_tkv_key(key)))
+            reading(key, shift, binding.read_tkv_key, |key| chunk_key(second::read_tkv_key(key)))
         }
     }
 }

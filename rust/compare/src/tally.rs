@@ -3,6 +3,7 @@
 use std::collections::BTreeMap;
 use std::fmt;
 
+use crate::binding::BINDINGS;
 use crate::call::Call;
 use crate::run;
 
@@ -20,14 +21,20 @@ pub struct Tally {
 }
 
 impl Tally {
-    /// Makes the call both ways; returns the refusal that the second program gives.
+    /// Makes the call through every binding; returns the refusal that the second program gives.
     pub fn compare(&mut self, origin: &'static str, call: &Call) -> u64 {
-        let seen = run::run(call, self.compared as usize);
-        self.count(origin, call.name(), seen.refusal);
-        if !seen.faults.is_empty() {
-            self.difference(&format!("{call:x?}"), &seen.faults.join("\n  "));
+        let shift = self.compared as usize;
+        let mut refusal = 0;
+        for binding in &BINDINGS {
+            let seen = run::run(binding, call, shift);
+            refusal = seen.refusal;
+            if !seen.faults.is_empty() {
+                let faults = seen.faults.join("\n  ");
+                self.difference(&format!("{} {call:x?}", binding.name), &faults);
+            }
         }
-        seen.refusal
+        self.count(origin, call.name(), refusal);
+        refusal
     }
 
     pub fn count(&mut self, origin: &'static str, call: &'static str, refusal: u64) {
@@ -69,6 +76,8 @@ impl fmt::Display for Tally {
         for (origin, count) in &self.origins {
             writeln!(f, "{count} calls from: {origin}")?;
         }
+        let bindings: Vec<&str> = BINDINGS.iter().map(|binding| binding.name).collect();
+        writeln!(f, "each made through: {}", bindings.join(", "))?;
         writeln!(f, "{} calls compared, {} differences", self.compared, self.differences)
     }
 }

@@ -4,7 +4,7 @@ use std::error::Error;
 use std::fmt;
 
 /// Why a call gave no answer. Where several fit, the library gives the first in this order:
-/// 7, 8, 1, 2, the first bad record and in it 3, 4, 5, 6; then 10, 9, 13, 11, 12.
+/// 7, 8, 1, 2, then the first bad record and in it 3, 4, 5, 6; then 10, 9, 13, 11, 12.
 ///
 /// `place` is the place of the record in its list, counted from 0.
 ///
@@ -51,7 +51,7 @@ pub enum Refusal {
     TidiedRecords,
     /// 12: an output buffer shorter than its answer (either of the two, in compaction)
     Buffer,
-    /// 13: a name or key not of the form, or numbers to be written that the form doesn't allow
+    /// 13: a name or key not of its form, or numbers to be written that the form doesn't allow
     Form,
 }
 
@@ -105,7 +105,7 @@ impl Refusal {
                 "an output buffer shorter than its answer (either of the two, in compaction)"
             }
             Refusal::Form => {
-                "a name or key not of the form, or numbers to be written that the form doesn't allow"
+                "a name or key not of its form, or numbers to be written that the form doesn't allow"
             }
         }
     }

@@ -1,22 +1,27 @@
 //! The structs have the layout that the C header gives them: numbers of 64 bits, in order.
+//! `compare/header.c` says the same of the header.
 
 use std::mem::{align_of, offset_of, size_of};
 
 use ezumokarin::sys::{ezk_answer, ezk_chunk_key, ezk_compacted, ezk_object};
 
-#[test]
-fn sizes() {
-    assert_eq!(size_of::<ezk_answer>(), 3 * 8);
-    assert_eq!(size_of::<ezk_compacted>(), 4 * 8);
-    assert_eq!(size_of::<ezk_object>(), 6 * 8);
-    assert_eq!(size_of::<ezk_chunk_key>(), 4 * 8);
-    assert_eq!(align_of::<ezk_answer>(), align_of::<u64>());
+/// Each field is a `u64` at its place, and there are no others.
+macro_rules! fields {
+    ($type:ident: $($field:ident),+) => {{
+        let places = [$(offset_of!($type, $field)),+];
+        let expected: Vec<usize> = (0..places.len()).map(|place| 8 * place).collect();
+        assert_eq!(places[..], expected);
+        let $type { $($field),+ } = $type::default();
+        let _: &[u64] = &[$($field),+];
+        assert_eq!(size_of::<$type>(), 8 * places.len());
+        assert_eq!(align_of::<$type>(), align_of::<u64>());
+    }};
 }
 
 #[test]
-fn last_fields() {
-    assert_eq!(offset_of!(ezk_answer, count), 2 * 8);
-    assert_eq!(offset_of!(ezk_compacted, list), 3 * 8);
-    assert_eq!(offset_of!(ezk_object, volume), 5 * 8);
-    assert_eq!(offset_of!(ezk_chunk_key, index), 3 * 8);
+fn every_field() {
+    fields!(ezk_answer: refusal, place, count);
+    fields!(ezk_compacted: refusal, place, plan, list);
+    fields!(ezk_object: refusal, place, id, block, length, volume);
+    fields!(ezk_chunk_key: refusal, place, inode, index);
 }

@@ -80,6 +80,6 @@ fn refusal_is_an_error() {
         Ok(read_redis_key(b"c0100_0")?.inode)
     }
     let sentence =
-        "a name or key not of the form, or numbers to be written that the form doesn't allow";
+        "a name or key not of its form, or numbers to be written that the form doesn't allow";
     assert_eq!(read().expect_err("a refusal").to_string(), sentence);
 }

@@ -1,4 +1,6 @@
-//! A second implementation of every public call, written from the requirements alone.
+//! A second implementation of every public call, written without reading `crates/`, from the
+//! requirements and from the same written readings of their unclear points. So comparing the two
+//! finds a slip of either, and not a reading that both share.
 //!
 //! It is meant to be read and believed, not to be fast: lists are resolved by
 //! cutting the chunk at every record boundary and looking up each part, and

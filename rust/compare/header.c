@@ -1,0 +1,183 @@
+/*
+ * Every call through the declarations of ezumokarin.h: inputs by position, fields by name. The
+ * comparison makes its calls here as well as through the Rust crate, so that a slip of the
+ * header shows as a difference. `to` is given the fields in the order in which header.rs reads
+ * them.
+ */
+#include <stddef.h>
+#include <stdint.h>
+
+#include "ezumokarin.h"
+
+/* Every field is a number of 8 bytes, at its place, and no struct has more. */
+#define FIELD(type, field, place)                                                                \
+    _Static_assert(offsetof(type, field) == 8 * (place) && sizeof(((type *)0)->field) == 8,      \
+                   #type "." #field)
+#define FIELDS(type, count) _Static_assert(sizeof(type) == 8 * (count), #type)
+
+FIELD(ezk_answer, refusal, 0);
+FIELD(ezk_answer, place, 1);
+FIELD(ezk_answer, count, 2);
+FIELDS(ezk_answer, 3);
+
+FIELD(ezk_compacted, refusal, 0);
+FIELD(ezk_compacted, place, 1);
+FIELD(ezk_compacted, plan, 2);
+FIELD(ezk_compacted, list, 3);
+FIELDS(ezk_compacted, 4);
+
+FIELD(ezk_object, refusal, 0);
+FIELD(ezk_object, place, 1);
+FIELD(ezk_object, id, 2);
+FIELD(ezk_object, block, 3);
+FIELD(ezk_object, length, 4);
+FIELD(ezk_object, volume, 5);
+FIELDS(ezk_object, 6);
+
+FIELD(ezk_chunk_key, refusal, 0);
+FIELD(ezk_chunk_key, place, 1);
+FIELD(ezk_chunk_key, inode, 2);
+FIELD(ezk_chunk_key, index, 3);
+FIELDS(ezk_chunk_key, 4);
+
+#define NAMED(constant) {#constant, constant}
+
+static const struct {
+    const char *name;
+    uint64_t value;
+} constants[] = {
+    NAMED(EZK_DONE),
+    NAMED(EZK_LIST_LENGTH),
+    NAMED(EZK_LIST_RECORDS),
+    NAMED(EZK_RECORD_END),
+    NAMED(EZK_SLICE_SIZE),
+    NAMED(EZK_ZERO_RECORD),
+    NAMED(EZK_SLICE_END),
+    NAMED(EZK_CHUNK_LENGTH),
+    NAMED(EZK_BLOCK_SIZE),
+    NAMED(EZK_NEW_ID),
+    NAMED(EZK_FIRST_RECORDS),
+    NAMED(EZK_TIDIED_RECORDS),
+    NAMED(EZK_BUFFER),
+    NAMED(EZK_FORM),
+    NAMED(EZK_CHUNK),
+    NAMED(EZK_RECORD),
+    NAMED(EZK_PIECE),
+    NAMED(EZK_TKV_KEY),
+};
+
+/* The name of a constant, and its value; NULL behind the last one. */
+const char *via_constant(size_t which, uint64_t *value)
+{
+    if (which >= sizeof constants / sizeof *constants)
+        return NULL;
+    *value = constants[which].value;
+    return constants[which].name;
+}
+
+static void answer(ezk_answer a, uint64_t *to)
+{
+    to[0] = a.refusal;
+    to[1] = a.place;
+    to[2] = a.count;
+}
+
+static void compacted(ezk_compacted a, uint64_t *to)
+{
+    to[0] = a.refusal;
+    to[1] = a.place;
+    to[2] = a.plan;
+    to[3] = a.list;
+}
+
+static void object(ezk_object a, uint64_t *to)
+{
+    to[0] = a.refusal;
+    to[1] = a.place;
+    to[2] = a.id;
+    to[3] = a.block;
+    to[4] = a.length;
+    to[5] = a.volume;
+}
+
+static void chunk_key(ezk_chunk_key a, uint64_t *to)
+{
+    to[0] = a.refusal;
+    to[1] = a.place;
+    to[2] = a.inode;
+    to[3] = a.index;
+}
+
+void via_check(const uint8_t *list, size_t list_len, uint64_t *to)
+{
+    answer(ezk_check(list, list_len), to);
+}
+
+void via_view(const uint8_t *list, size_t list_len, uint64_t chunk_len, uint8_t *out,
+              size_t out_len, uint64_t *to)
+{
+    answer(ezk_view(list, list_len, chunk_len, out, out_len), to);
+}
+
+void via_tidy(const uint8_t *list, size_t list_len, uint8_t *out, size_t out_len, uint64_t *to)
+{
+    answer(ezk_tidy(list, list_len, out, out_len), to);
+}
+
+void via_read_plan(const uint8_t *list, size_t list_len, uint64_t chunk_len, uint64_t block_size,
+                   uint64_t start, uint64_t count, uint8_t *out, size_t out_len, uint64_t *to)
+{
+    answer(ezk_read_plan(list, list_len, chunk_len, block_size, start, count, out, out_len), to);
+}
+
+void via_compact(const uint8_t *list, size_t list_len, uint64_t block_size, uint64_t k,
+                 uint64_t new_id, uint8_t *plan, size_t plan_len, uint8_t *new_list,
+                 size_t new_list_len, uint64_t *to)
+{
+    compacted(ezk_compact(list, list_len, block_size, k, new_id, plan, plan_len, new_list,
+                          new_list_len),
+              to);
+}
+
+void via_write_object_name(uint64_t id, uint64_t block, uint64_t length, uint8_t *out,
+                           size_t out_len, uint64_t *to)
+{
+    answer(ezk_write_object_name(id, block, length, out, out_len), to);
+}
+
+void via_write_full_name(const uint8_t *volume, size_t volume_len, uint64_t id, uint64_t block,
+                         uint64_t length, uint8_t *out, size_t out_len, uint64_t *to)
+{
+    answer(ezk_write_full_name(volume, volume_len, id, block, length, out, out_len), to);
+}
+
+void via_read_object_name(const uint8_t *name, size_t name_len, uint64_t *to)
+{
+    object(ezk_read_object_name(name, name_len), to);
+}
+
+void via_read_full_name(const uint8_t *name, size_t name_len, uint64_t *to)
+{
+    object(ezk_read_full_name(name, name_len), to);
+}
+
+void via_write_redis_key(uint64_t inode, uint64_t index, uint8_t *out, size_t out_len,
+                         uint64_t *to)
+{
+    answer(ezk_write_redis_key(inode, index, out, out_len), to);
+}
+
+void via_write_tkv_key(uint64_t inode, uint64_t index, uint8_t *out, size_t out_len, uint64_t *to)
+{
+    answer(ezk_write_tkv_key(inode, index, out, out_len), to);
+}
+
+void via_read_redis_key(const uint8_t *key, size_t key_len, uint64_t *to)
+{
+    chunk_key(ezk_read_redis_key(key, key_len), to);
+}
+
+void via_read_tkv_key(const uint8_t *key, size_t key_len, uint64_t *to)
+{
+    chunk_key(ezk_read_tkv_key(key, key_len), to);
+}

@@ -1,0 +1,97 @@
+//! The header's constants, by name, against the second program: a refusal's number is the one
+//! that the second program gives in the case that the name stands for.
+
+use std::ffi::{c_char, CStr};
+
+use second::limits::{CHUNK, LIST_RECORDS, PIECE, RECORD, TIDIED_RECORDS, TKV_KEY};
+use second::{Record, Refusal};
+
+use crate::tally::Tally;
+
+const BLOCK: u64 = 65_536;
+
+extern "C" {
+    /// The name of a constant, a C string, and its value; null behind the last one.
+    fn via_constant(which: usize, value: *mut u64) -> *const c_char;
+}
+
+pub fn run(tally: &mut Tally) {
+    let found = in_header();
+    let expected = [sizes(), of_lists(), of_calls()].concat();
+    if found.len() != expected.len() {
+        tally.difference("the header's constants", &format!("{} of them", found.len()));
+    }
+    for (name, want) in expected {
+        let got = found.iter().find(|constant| constant.0 == name).map(|constant| constant.1);
+        if got != Some(want) {
+            let what = format!("header {got:?}, second program {want}");
+            tally.difference(&format!("the header's constant {name}"), &what);
+        }
+    }
+}
+
+fn in_header() -> Vec<(String, u64)> {
+    (0..).map_while(constant).collect()
+}
+
+/// Safe because the C code writes one value, and a name lives as long as the program.
+fn constant(which: usize) -> Option<(String, u64)> {
+    let mut value = 0;
+    let name = unsafe { via_constant(which, &mut value) };
+    if name.is_null() {
+        return None;
+    }
+    let name = unsafe { CStr::from_ptr(name) };
+    Some((name.to_string_lossy().into_owned(), value))
+}
+
+fn sizes() -> Vec<(&'static str, u64)> {
+    vec![
+        ("EZK_DONE", number(second::check(&[]))),
+        ("EZK_CHUNK", CHUNK),
+        ("EZK_RECORD", RECORD as u64),
+        ("EZK_PIECE", PIECE as u64),
+        ("EZK_TKV_KEY", TKV_KEY as u64),
+    ]
+}
+
+fn of_lists() -> Vec<(&'static str, u64)> {
+    let one = |pos, id, size, off, len| {
+        number(second::check(&Record::new(pos, id, size, off, len).to_bytes()))
+    };
+    vec![
+        ("EZK_LIST_LENGTH", number(second::check(&[0; RECORD - 1]))),
+        ("EZK_LIST_RECORDS", number(second::check(&[0; (LIST_RECORDS + 1) * RECORD]))),
+        ("EZK_RECORD_END", one(CHUNK, 0, 0, 0, 1)),
+        ("EZK_SLICE_SIZE", one(0, 7, CHUNK + 1, 0, 1)),
+        ("EZK_ZERO_RECORD", one(0, 0, 1, 0, 1)),
+        ("EZK_SLICE_END", one(0, 7, 10, 4, 7)),
+    ]
+}
+
+fn of_calls() -> Vec<(&'static str, u64)> {
+    vec![
+        ("EZK_CHUNK_LENGTH", number(second::view_bytes(&[], CHUNK + 1))),
+        ("EZK_BLOCK_SIZE", number(second::read_plan_bytes(&[], 0, BLOCK + 1, 0, 0))),
+        ("EZK_NEW_ID", number(second::compact_bytes(&[], BLOCK, 0, 0))),
+        ("EZK_FIRST_RECORDS", number(second::compact_bytes(&[], BLOCK, 1, 1))),
+        ("EZK_TIDIED_RECORDS", number(second::tidy_bytes(&comb()))),
+        ("EZK_BUFFER", number(second::view(&[], 1, &mut []))),
+        ("EZK_FORM", number(second::read_redis_key(&[]))),
+    ]
+}
+
+/// A slice under zeros at every second byte, tidied to one record too many.
+fn comb() -> Vec<u8> {
+    let bytes = TIDIED_RECORDS as u64 + 1;
+    let mut list = Record::new(0, 7, bytes, 0, bytes).to_bytes().to_vec();
+    for i in 0..bytes / 2 {
+        list.extend(Record::new(2 * i + 1, 0, 0, 0, 1).to_bytes());
+    }
+    list
+}
+
+/// 0 for an answer.
+fn number<T>(answer: Result<T, Refusal>) -> u64 {
+    answer.map_or_else(|refusal| refusal.number, |_| 0)
+}

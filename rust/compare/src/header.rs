@@ -1,0 +1,178 @@
+//! Every call through C that was compiled from `include/ezumokarin.h` (`header.c`), which
+//! hands the fields over in a row of numbers.
+
+use ezumokarin::sys::{ezk_answer, ezk_chunk_key, ezk_compacted, ezk_object};
+
+use crate::binding::Binding;
+
+pub const BINDING: Binding = Binding {
+    name: "C header",
+    check,
+    view,
+    tidy,
+    read_plan,
+    compact,
+    write_object_name,
+    write_full_name,
+    read_object_name,
+    read_full_name,
+    write_redis_key,
+    write_tkv_key,
+    read_redis_key,
+    read_tkv_key,
+};
+
+type In = *const u8;
+type Out = *mut u8;
+type To = *mut u64;
+
+extern "C" {
+    fn via_check(list: In, len: usize, to: To);
+    fn via_view(list: In, len: usize, chunk_len: u64, out: Out, out_len: usize, to: To);
+    fn via_tidy(list: In, len: usize, out: Out, out_len: usize, to: To);
+    fn via_read_plan(
+        list: In,
+        len: usize,
+        chunk_len: u64,
+        block_size: u64,
+        start: u64,
+        count: u64,
+        out: Out,
+        out_len: usize,
+        to: To,
+    );
+    fn via_compact(
+        list: In,
+        len: usize,
+        block_size: u64,
+        k: u64,
+        new_id: u64,
+        plan: Out,
+        plan_len: usize,
+        new_list: Out,
+        new_list_len: usize,
+        to: To,
+    );
+    fn via_write_object_name(id: u64, block: u64, length: u64, out: Out, out_len: usize, to: To);
+    fn via_write_full_name(
+        volume: In,
+        volume_len: usize,
+        id: u64,
+        block: u64,
+        length: u64,
+        out: Out,
+        out_len: usize,
+        to: To,
+    );
+    fn via_read_object_name(name: In, len: usize, to: To);
+    fn via_read_full_name(name: In, len: usize, to: To);
+    fn via_write_redis_key(inode: u64, index: u64, out: Out, out_len: usize, to: To);
+    fn via_write_tkv_key(inode: u64, index: u64, out: Out, out_len: usize, to: To);
+    fn via_read_redis_key(key: In, len: usize, to: To);
+    fn via_read_tkv_key(key: In, len: usize, to: To);
+}
+
+/// Hands the call a row of numbers to fill. Each call below is safe because a slice is good
+/// for its length, and a row for as many numbers as the C code hands over.
+fn filled<const FIELDS: usize>(call: impl Fn(To)) -> [u64; FIELDS] {
+    let mut row = [u64::MAX; FIELDS];
+    call(row.as_mut_ptr());
+    row
+}
+
+fn answer([refusal, place, count]: [u64; 3]) -> ezk_answer {
+    ezk_answer { refusal, place, count }
+}
+
+fn object([refusal, place, id, block, length, volume]: [u64; 6]) -> ezk_object {
+    ezk_object { refusal, place, id, block, length, volume }
+}
+
+fn chunk_key([refusal, place, inode, index]: [u64; 4]) -> ezk_chunk_key {
+    ezk_chunk_key { refusal, place, inode, index }
+}
+
+fn check(list: &[u8]) -> ezk_answer {
+    answer(filled(|to| unsafe { via_check(list.as_ptr(), list.len(), to) }))
+}
+
+fn view(list: &[u8], chunk_len: u64, out: &mut [u8]) -> ezk_answer {
+    let (out, out_len) = (out.as_mut_ptr(), out.len());
+    answer(filled(|to| unsafe { via_view(list.as_ptr(), list.len(), chunk_len, out, out_len, to) }))
+}
+
+fn tidy(list: &[u8], out: &mut [u8]) -> ezk_answer {
+    let (out, out_len) = (out.as_mut_ptr(), out.len());
+    answer(filled(|to| unsafe { via_tidy(list.as_ptr(), list.len(), out, out_len, to) }))
+}
+
+fn read_plan(
+    list: &[u8],
+    chunk_len: u64,
+    block_size: u64,
+    start: u64,
+    count: u64,
+    out: &mut [u8],
+) -> ezk_answer {
+    let (list, len) = (list.as_ptr(), list.len());
+    let (out, out_len) = (out.as_mut_ptr(), out.len());
+    answer(filled(|to| unsafe {
+        via_read_plan(list, len, chunk_len, block_size, start, count, out, out_len, to)
+    }))
+}
+
+fn compact(
+    list: &[u8],
+    block_size: u64,
+    k: u64,
+    new_id: u64,
+    plan: &mut [u8],
+    new_list: &mut [u8],
+) -> ezk_compacted {
+    let (list, len) = (list.as_ptr(), list.len());
+    let (plan, plan_len) = (plan.as_mut_ptr(), plan.len());
+    let (new, new_len) = (new_list.as_mut_ptr(), new_list.len());
+    let [refusal, place, plan, list] = filled(|to| unsafe {
+        via_compact(list, len, block_size, k, new_id, plan, plan_len, new, new_len, to)
+    });
+    ezk_compacted { refusal, place, plan, list }
+}
+
+fn write_object_name(id: u64, block: u64, length: u64, out: &mut [u8]) -> ezk_answer {
+    let (out, out_len) = (out.as_mut_ptr(), out.len());
+    answer(filled(|to| unsafe { via_write_object_name(id, block, length, out, out_len, to) }))
+}
+
+fn write_full_name(volume: &[u8], id: u64, block: u64, length: u64, out: &mut [u8]) -> ezk_answer {
+    let (volume, volume_len) = (volume.as_ptr(), volume.len());
+    let (out, out_len) = (out.as_mut_ptr(), out.len());
+    answer(filled(|to| unsafe {
+        via_write_full_name(volume, volume_len, id, block, length, out, out_len, to)
+    }))
+}
+
+fn read_object_name(name: &[u8]) -> ezk_object {
+    object(filled(|to| unsafe { via_read_object_name(name.as_ptr(), name.len(), to) }))
+}
+
+fn read_full_name(name: &[u8]) -> ezk_object {
+    object(filled(|to| unsafe { via_read_full_name(name.as_ptr(), name.len(), to) }))
+}
+
+fn write_redis_key(inode: u64, index: u64, out: &mut [u8]) -> ezk_answer {
+    let (out, out_len) = (out.as_mut_ptr(), out.len());
+    answer(filled(|to| unsafe { via_write_redis_key(inode, index, out, out_len, to) }))
+}
+
+fn write_tkv_key(inode: u64, index: u64, out: &mut [u8]) -> ezk_answer {
+    let (out, out_len) = (out.as_mut_ptr(), out.len());
+    answer(filled(|to| unsafe { via_write_tkv_key(inode, index, out, out_len, to) }))
+}
+
+fn read_redis_key(key: &[u8]) -> ezk_chunk_key {
+    chunk_key(filled(|to| unsafe { via_read_redis_key(key.as_ptr(), key.len(), to) }))
+}
+
+fn read_tkv_key(key: &[u8]) -> ezk_chunk_key {
+    chunk_key(filled(|to| unsafe { via_read_tkv_key(key.as_ptr(), key.len(), to) }))
+}
