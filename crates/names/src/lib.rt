@@ -76,14 +76,22 @@ pub fn read_full_name(name: &[u8]) -> ObjectName
     block::read(name, slash)
 }
 
+// How long the volume name of a full name is, where the name was read as `named`; 0 where it is refused.
+pub fn volume_length(name: &[u8], named: ObjectName) -> usize
+    requires { ⌜ named ≡ fullAnswer (readFull (now name)) ⌝ }
+    ensures { λ r. ⌜ r ≡ length (volumePart (readFull (now (name .entry)))) ⌝ }
+{
+    if let ObjectName::Refused(_) = named {
+        return 0;
+    }
+    volume::run(name)
+}
+
 // The volume name of a full name, as a part of it; an empty part where the name is refused.
 pub fn volume_of(name: &[u8]) -> &[u8]
     ensures { λ r. ⌜ now r ≡ volumePart (readFull (now (name .entry))) ⌝ }
 {
     let named = read_full_name(name);
-    if let ObjectName::Refused(_) = named {
-        return &name[..0];
-    }
-    let n = volume::run(name);
+    let n = volume_length(name, named);
     &name[..n]
 }

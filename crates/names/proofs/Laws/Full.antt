@@ -21,7 +21,7 @@ use Rattle.texts.specs.Words.{slash, underscore}
 use Rattle.texts.specs.Parts.{write, allows, Scan, onward, scan}
 use Rattle.texts.specs.Inner.{wordAfter}
 use Rattle.names.specs.Volume.{volumeAllowed, volumeRun, volumeAt}
-use Rattle.texts.specs.Calls.{reading}
+use Rattle.texts.specs.Calls.{reading, WriterRefuses}
 use Rattle.texts.specs.Inverse.{Inverse, Any}
 use Rattle.names.specs.Names.{Object, object, Full, full, objectAllowed, objectName, nameForm, objectOf, readObject, objectAnswer, fullAllowed, fullName, fullForm, fullScan, inVolume, readFull, fullAnswer, volumePart, writeFull}
 use Rattle.names.specs.declared.ObjectName.the-variants.{Block, Refused}
@@ -30,7 +30,6 @@ use Rattle.texts.proofs.Laws.Steps.{on-word}
 use Rattle.texts.proofs.Laws.Shows.{Shows, shows-back, shows-forth}
 use Rattle.names.proofs.Laws.Volume.{right, is-right, run-writes, run-reads}
 use Rattle.names.proofs.Laws.Names.{shown, name-text, name-shows}
-use Rattle.texts.specs.Calls.{WriterRefuses}
 use Rattle.texts.proofs.Laws.Calls.{writer-refuses, reading-only}
 use Rattle.texts.proofs.Laws.Inverse as inverse
 use Rattle.outcomes.specs.Answers.{answerOf}
@@ -130,10 +129,19 @@ full-name-refused-exactly t = inverse.refused-exactly full-name t tt
 pub write-full-refused-exactly : (volume : List ℕ) (id block len : ℕ) → WriterRefuses (writeFull volume id block len) (fullAllowed volume id block len) (fullName volume id block len)
 write-full-refused-exactly volume id block len = writer-refuses (fullAllowed volume id block len) (fullName volume id block len)
 
--- the volume part is empty exactly on a refusal, and else the volume name
+-- the volume part is the volume name
 pub volume-back : (volume : List ℕ) (id block len : ℕ) → fullAllowed volume id block len ≡ true → volumePart (readFull (fullName volume id block len)) ≡ volume
 unfolding volumePart
 volume-back volume id block len a = rw (full-name-back volume id block len a)
+
+-- and the front of the text
+pub volume-front : (t : List ℕ) → take (length (volumePart (readFull t))) t ≡ volumePart (readFull t)
+unfolding readFull volumePart inVolume
+volume-front t = go (reading objectOf (fullScan t))
+  where
+    go : (o : Outcome Object) → take (length (volumePart (inVolume (take (volumeRun t) t) o))) t ≡ volumePart (inVolume (take (volumeRun t) t) o)
+    go (refused x) = refl
+    go (done o) = rw (run-reads t .1)
 
 -- no text is both a full name and a short one
 pub full-not-short : (t : List ℕ) (f : Full) (o : Object) → readFull t ≡ done f → readObject t ≡ done o → ⊥
@@ -168,16 +176,16 @@ unfolding readFull fullScan
 full-steps t s0 s1 e0 e1 =
     ap (λ (x : Scan). objectAnswer (reading objectOf x)) (sym (on-word nameForm t [] slash (volumeAt t) s1 (rw e0 at e1))) ∙ answer-same (take (volumeRun t) t) _
 
--- the part that is handed back
-pub volume-none : (o : Outcome Full) (r : Refusal) → Refused r ≡ fullAnswer o → [] ≡ volumePart o
+-- the length of the part that is handed back
+pub volume-none : (o : Outcome Full) (r : Refusal) → Refused r ≡ fullAnswer o → 0 ≡ length (volumePart o)
 unfolding answerOf volumePart
 volume-none (refused x) r e = refl
 volume-none (done f) r e = let z : _≡_ {A = ℕ} 0 1 = cc in absurd (omega arith)
 
-pub volume-some : (t : List ℕ) (id block len : ℕ) → Block id block len ≡ fullAnswer (readFull t) → take (volumeRun t) t ≡ volumePart (readFull t)
+pub volume-some : (t : List ℕ) (id block len : ℕ) → Block id block len ≡ fullAnswer (readFull t) → volumeRun t ≡ length (volumePart (readFull t))
 unfolding readFull answerOf volumePart inVolume
 volume-some t id block len e = go (reading objectOf (fullScan t)) e
   where
-    go : (o : Outcome Object) → Block id block len ≡ fullAnswer (inVolume (take (volumeRun t) t) o) → take (volumeRun t) t ≡ volumePart (inVolume (take (volumeRun t) t) o)
+    go : (o : Outcome Object) → Block id block len ≡ fullAnswer (inVolume (take (volumeRun t) t) o) → volumeRun t ≡ length (volumePart (inVolume (take (volumeRun t) t) o))
     go (refused x) e = let z : _≡_ {A = ℕ} 0 1 = cc in absurd (omega arith)
-    go (done o) e = refl
+    go (done o) e = sym (run-reads t .1)
