@@ -8,7 +8,7 @@ use Rattle.codec.specs.Fixed.{bigEndian, numberAt}
 use Rattle.codec.specs.Little.{littleEndian, littleAt}
 use Rattle.codec.specs.Decimal.{decimal}
 use Rattle.outcomes.specs.Numbers.{notOfForm}
-use Rattle.outcomes.specs.Outcome.{Outcome, refused, done, row, firstOf}
+use Rattle.outcomes.specs.Outcome.{Outcome, done, row, firstOf}
 use Rattle.outcomes.specs.Answers.{answerOf}
 use Rattle.texts.specs.Limits.{maxNumber}
 use Rattle.keys.specs.Limits.{maxIndex, tkvSize}

@@ -3,3 +3,4 @@ pub mod Volume
 pub mod Names
 pub mod Reader
 pub mod Full
+pub mod Claims

@@ -19,14 +19,13 @@ use Rattle.keys.specs.Words.{smallC}
 use Rattle.texts.specs.Words.{underscore}
 use Rattle.texts.specs.Parts.{write, found, with, onward, scan}
 use Rattle.texts.specs.Inner.{wordAfter, numberAfter, endAfter, valueOf}
-use Rattle.texts.specs.Calls.{reading}
+use Rattle.texts.specs.Calls.{reading, WriterRefuses}
 use Rattle.texts.specs.Inverse.{Inverse, Any}
 use Rattle.keys.specs.Keys.{Chunk, chunk, chunkAllowed, redisKey, redisForm, chunkOf, readRedis, chunkAnswer, writeRedis}
 use Rattle.keys.specs.declared.ChunkKey.the-variants.{Key, Refused}
 use Rattle.texts.proofs.Laws.Parts.{apart, ends, Allowed, allowed, allowing}
 use Rattle.texts.proofs.Laws.Steps.{on-word, on-number, on-end}
 use Rattle.texts.proofs.Laws.Shows.{Shows, shows-inverse}
-use Rattle.texts.specs.Calls.{WriterRefuses}
 use Rattle.texts.proofs.Laws.Calls.{writer-refuses}
 use Rattle.texts.proofs.Laws.Inverse as inverse
 use Rattle.outcomes.specs.Answers.{answerOf}
