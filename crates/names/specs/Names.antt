@@ -1,4 +1,4 @@
--- Object names (paper 01, "Blocks, names, keys"). proofs/Laws/Names.antt shows that reading is the inverse of writing. Assumes nothing.
+-- Object names (paper 01, "Blocks, names, keys"). Claims.antt says that reading is the inverse of writing. Assumes nothing.
 use Prim.Native.Nat.{ℕ, _+_, _*_, _/_, min, max}
 use mathlib.Core.Bool.{Bool, _&&_}
 use mathlib.Core.List.{List, [], _∷_, _++_}
