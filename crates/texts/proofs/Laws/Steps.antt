@@ -10,7 +10,7 @@ use Rattle.codec.specs.declared.scan.Step.{Step}
 use Rattle.codec.specs.declared.scan.Step.the-variants.{Next, Stop}
 use Rattle.codec.proofs.Laws.Scan.{decimal-reads, next-stop}
 use Rattle.texts.specs.Inner.{wordAfter, numberAfter, endAfter, valueOf}
-use Rattle.texts.specs.Parts.{Part, word, number, wordAt, endAt, Scan, found, stop, onward, with, scan}
+use Rattle.texts.specs.Parts.{Part, word, number, wordAt, endAt, Scan, found, onward, with, scan}
 use Rattle.texts.specs.Calls.{reading}
 use Rattle.outcomes.specs.Numbers.{notOfForm}
 use Rattle.outcomes.specs.Outcome.{refusal}
@@ -73,29 +73,28 @@ pub data Chain (text : List ℕ) : List Part → List ℕ → Step → List ℕ 
   by-number : {form : List Part} {before ns : List ℕ} {least most : List ℕ → ℕ} {s t last : Step} → t ≡ numberAfter (least before) (most before) text s
       → Chain text form (valueOf t ∷ before) t ns last → Chain text (number least most ∷ form) before s (valueOf t ∷ ns) last
 
-chain-found : {text before ns : List ℕ} {form : List Part} {s last : Step} {i v : ℕ} → Chain text form before s ns last → last ≡ Next i v
-    → onward s (λ i v. scan form text before i) ≡ found ns
-chain-found {text} {before} (by-end {s = s} {t = t} e) h = on-end text before s t e ∙ rw h
-chain-found {text} {before} (by-word {form} {w = w} {s} {t} e c) h = on-word form text before w s t e ∙ chain-found c h
-chain-found {text} {before} (by-number {form} {least = least} {most} {s} {t} e c) h = on-number form text before least most s t e ∙ ap (with (valueOf t)) (chain-found c h)
+with-onward : (v : ℕ) (ns : List ℕ) (s : Step) → with v (onward s (λ i u. found ns)) ≡ onward s (λ i u. found (v ∷ ns))
+with-onward v ns (Next i u) = refl
+with-onward v ns (Stop i) = refl
 
-chain-stopped : {text before ns : List ℕ} {form : List Part} {s last : Step} {i : ℕ} → Chain text form before s ns last → last ≡ Stop i
-    → onward s (λ i v. scan form text before i) ≡ stop i
-chain-stopped {text} {before} (by-end {s = s} {t = t} e) h = on-end text before s t e ∙ rw h
-chain-stopped {text} {before} (by-word {form} {w = w} {s} {t} e c) h = on-word form text before w s t e ∙ chain-stopped c h
-chain-stopped {text} {before} (by-number {form} {least = least} {most} {s} {t} e c) h = on-number form text before least most s t e ∙ ap (with (valueOf t)) (chain-stopped c h)
+-- its last step decides
+chain-scan : {text before ns : List ℕ} {form : List Part} {s last : Step} → Chain text form before s ns last → onward s (λ i v. scan form text before i) ≡ onward last (λ i v. found ns)
+chain-scan {text} {before} (by-end {s = s} {t} e) = on-end text before s t e
+chain-scan {text} {before} (by-word {form} {w = w} {s} {t} e c) = on-word form text before w s t e ∙ chain-scan c
+chain-scan {text} {before} (by-number {form} {ns = ns} {least} {most} {s} {t} {last} e c) =
+    on-number form text before least most s t e ∙ ap (with (valueOf t)) (chain-scan c) ∙ with-onward (valueOf t) ns last
 
 -- what the reader then answers
 module _ {A X : Type 0} (refuse : Refusal → X) (say : A → X) (stands : List ℕ → A) {text ns : List ℕ} {form : List Part} {s last : Step} (chain : Chain text form [] s ns last) where
   -- the text ends where the form does
   pub answer-found : {i v : ℕ} → last ≡ Next i v → say (stands ns) ≡ answerOf refuse say (reading stands (onward s (λ i v. scan form text [] i)))
   unfolding answerOf reading
-  answer-found e = rw (chain-found chain e)
+  answer-found e = rw (chain-scan chain, e)
 
   -- the text is not of the form
   pub answer-stopped : {i : ℕ} {r : Refusal} → last ≡ Stop i → r ≡ refusal notOfForm 0 → refuse r ≡ answerOf refuse say (reading stands (onward s (λ i v. scan form text [] i)))
   unfolding answerOf reading
-  answer-stopped e er = rw (chain-stopped chain e, er)
+  answer-stopped e er = rw (chain-scan chain, e, er)
 
 -- a number that was read is within its bound
 pub value-within : (least most : ℕ) (text : List ℕ) (s t : Step) → t ≡ numberAfter least most text s → valueOf t ≤ most
