@@ -16,7 +16,7 @@ pub record NamesInverse : Type 0 where
   -- full names
   pub full : Inverse Any (λ f. fullAllowed (f .volume) (f .object .id) (f .object .block) (f .object .length)) (λ f. fullName (f .volume) (f .object .id) (f .object .block) (f .object .length)) readFull
   -- no text is both
-  pub either : (t : List ℕ) (f : Full) (o : Object) → readFull t ≡ done f → readObject t ≡ done o → ⊥
+  pub notBoth : (t : List ℕ) (f : Full) (o : Object) → readFull t ≡ done f → readObject t ≡ done o → ⊥
   -- "The two quotients must agree with the id"
   pub quotients : (millions thousands id block len : ℕ) (o : Object) → readObject (shaped millions thousands id block len) ≡ done o → (millions ≡ id / 1000 / 1000) × (thousands ≡ id / 1000)
   -- the volume name comes back

@@ -11,7 +11,7 @@ names-inverse =
     record {
       short = object-name;
       full = full-name;
-      either = full-not-short;
+      notBoth = full-not-short;
       quotients = quotients-agree;
       volume = volume-back;
       part = volume-front;
