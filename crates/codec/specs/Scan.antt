@@ -1,5 +1,5 @@
--- Reading a decimal number in a text, from a place on. proofs/Laws/Scan.antt shows that what is read is exactly what `decimal` writes,
--- within the bounds. Assumes nothing.
+-- Reading a decimal number in a text: what a number that was read is, and the scan that finds it. proofs/Laws/Scan.antt shows that the scan
+-- finds nothing else (`decimal-reads`), and finds each such number (`decimal-writes`). Assumes nothing.
 use Prim.Native.Nat.{ℕ, suc, _+_, _*_, _≤_, min}
 use mathlib.Core.Path.{_≡_}
 use mathlib.Core.Bool.{cond, _&&_}
@@ -10,13 +10,25 @@ use Rattle.codec.specs.Decimal.{decimal, digitOf}
 use Rattle.codec.specs.declared.scan.Step.{Step}
 use Rattle.codec.specs.declared.scan.Step.the-variants.{Next, Stop}
 
--- what the first byte of a text stands for as a digit, and 10 where there is none
+-- Inner, of `digit_at`'s contract and the record below: what the first byte of a text stands for as a digit, and 10 where there is none.
 unfoldable pub digitAt : List ℕ → ℕ
 digitAt [] = 10
 digitAt (b ∷ rest) = digitOf b
 
--- The list is what the text has from place i on. `Next` has the place after the number, `Stop` the place of the first byte at which no
--- number from `least` to `most` goes on.
+-- The number n stands in a text from place i up to, but without, place j: there is exactly what `decimal` writes of n, n is within the
+-- bounds, and no digit follows.
+pub record DecimalRead (least most i : ℕ) (text : List ℕ) (j n : ℕ) : Type 0 where
+  pub same : drop i text ≡ decimal n ++ drop j text
+  pub above : least ≤ n
+  pub within : n ≤ most
+  pub after : 10 ≤ digitAt (drop j text)
+
+-- ---- the scan
+
+-- The list is what the text has from place i on. `Next` has the place after the number, and the number. `Stop` has the place at which the
+-- scan gives up: that of a digit that would bring the number above `most`, that follows a zero, or that is a zero in front where `least` is
+-- above 0; or that of the first byte that is no digit, or of the text's end, where there is no digit before it or the number is below
+-- `least`. So it is not the end of the longest beginning that an allowed number has: from 1,234,000 to 1,234,999, `1235` stops at its end.
 
 -- a number of which v is read already: a zero takes no further digit
 unfoldable pub moreDigits : ℕ → ℕ → ℕ → ℕ → List ℕ → Step
@@ -32,9 +44,3 @@ decimalAt least most i [] = Stop i
 decimalAt least most i (b ∷ rest) =
     let further = moreDigits least most (digitOf b) (suc i) rest in
     cond (ltb (digitOf b) 10 && (leb (min 1 least) (digitOf b) && leb (digitOf b) most)) further (Stop i)
-
-pub record DecimalRead (least most i : ℕ) (text : List ℕ) (j n : ℕ) : Type 0 where
-  pub same : drop i text ≡ decimal n ++ drop j text
-  pub above : least ≤ n
-  pub within : n ≤ most
-  pub after : 10 ≤ digitAt (drop j text)

@@ -8,7 +8,8 @@ use lib.ListN.{length, take, drop}
 unfoldable pub splice : List ℕ → ℕ → List ℕ → List ℕ
 splice out at bs = take at out ++ (bs ++ drop (at + length bs) out)
 
--- what a step that puts bytes leaves: bs, at most `room` bytes, are put into a buffer from `at` on, and end at `end`
+-- Inner, of contracts of functions that no caller of the library sees. What a step that puts bytes leaves: bs, at most `room` bytes, are
+-- put into a buffer from `at` on, and end at `end`.
 pub record Puts (out : List ℕ) (at : ℕ) (bs : List ℕ) (room : ℕ) (end : ℕ) (after : List ℕ) : Type 0 where
   pub leaves : after ≡ splice out at bs
   pub ends : end ≡ at + length bs

@@ -7,7 +7,7 @@ ghost use lib.Dec.{leb, ltb};
 ghost use Rattle.codec.specs.Scan.{digitAt, decimalAt};
 
 // What reading one part of a text finds: the place after it, with the number it holds (0 for a word), or
-// the place where the text goes wrong.
+// the place at which the reading gives up.
 pub enum Step {
     Next { at: usize, value: u64 },
     Stop(usize),

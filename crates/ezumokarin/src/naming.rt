@@ -43,14 +43,14 @@ pub extern "C" fn ezk_read_object_name(name: &[u8]) -> Object
     answers::of_object(names::read_object_name(name), 0)
 }
 
-// names::read_full_name, with the length of names::volume_of.
+// names::read_full_name, with the length of names::volume_of: the name is read once.
 #[no_mangle]
 pub extern "C" fn ezk_read_full_name(name: &[u8]) -> Object
     ensures { λ r. ⌜ r ≡ fullRead (readFull (now (name .entry))) ⌝ }
 {
-    let volume = names::volume_of(name);
-    let n = volume.len() as u64;
-    answers::of_object(names::read_full_name(name), n)
+    let named = names::read_full_name(name);
+    let n = names::volume_length(name, named) as u64;
+    answers::of_object(named, n)
 }
 
 // keys::write_redis_key.

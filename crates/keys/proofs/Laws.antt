@@ -1,3 +1,4 @@
 -- Laws of the definitions of specs/.
 pub mod Keys
 pub mod Tkv
+pub mod Claims

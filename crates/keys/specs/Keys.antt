@@ -1,4 +1,4 @@
--- Chunk keys (paper 01, "Blocks, names, keys"). proofs/Laws/Keys.antt shows that reading is the inverse of writing. Assumes nothing.
+-- Chunk keys (paper 01, "Blocks, names, keys"). Claims.antt says that reading is the inverse of writing. Assumes nothing.
 use Prim.Native.Nat.{ℕ}
 use mathlib.Core.Bool.{Bool, _&&_, not}
 use mathlib.Core.List.{List, [], _∷_, _++_}

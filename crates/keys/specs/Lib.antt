@@ -1,3 +1,4 @@
 pub mod Limits
 pub mod Words
 pub mod Keys
+pub mod Claims

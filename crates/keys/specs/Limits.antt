@@ -10,6 +10,6 @@ maxIndex = 2 ^ 32 - 1
 abbrev pub tkvSize : ℕ
 tkvSize = 14
 
--- the room that a Redis key takes at most: two words of one byte, two numbers
+-- inner: the room that a Redis key takes at most: two words of one byte, two numbers
 abbrev pub redisRoom : ℕ
 redisRoom = 2 + 2 * maxDigits

@@ -1,5 +1,5 @@
 -- Laws of the definitions of specs/.
 pub mod Volume
 pub mod Names
-pub mod Reader
 pub mod Full
+pub mod Claims

@@ -2,3 +2,4 @@ pub mod Limits
 pub mod Words
 pub mod Volume
 pub mod Names
+pub mod Claims

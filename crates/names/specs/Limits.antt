@@ -14,6 +14,6 @@ maxLength = 16777216
 abbrev pub maxVolume : ℕ
 maxVolume = 63
 
--- the room that an object name takes at most: `chunks/` and four words of one byte, five numbers
+-- inner: the room that an object name takes at most: `chunks/` and four words of one byte, five numbers
 abbrev pub nameRoom : ℕ
 nameRoom = 11 + 5 * maxDigits

@@ -1,4 +1,4 @@
--- Object names (paper 01, "Blocks, names, keys"). proofs/Laws/Names.antt shows that reading is the inverse of writing. Assumes nothing.
+-- Object names (paper 01, "Blocks, names, keys"). Claims.antt says that reading is the inverse of writing. Assumes nothing.
 use Prim.Native.Nat.{ℕ, _+_, _*_, _/_, min, max}
 use mathlib.Core.Bool.{Bool, _&&_}
 use mathlib.Core.List.{List, [], _∷_, _++_}
@@ -32,10 +32,14 @@ objectAllowed id block len = (leb 1 id && leb id maxNumber) && (leb block maxBlo
 
 -- ---- short names
 
+-- five numbers in the shape of a name
+abbrev pub shaped : ℕ → ℕ → ℕ → ℕ → ℕ → List ℕ
+shaped millions thousands id block len =
+    chunks ++ (decimal millions ++ (slash ++ (decimal thousands ++ (slash ++ (decimal id ++ (underscore ++ (decimal block ++ (underscore ++ decimal len))))))))
+
 -- "Object name (003): `chunks/` id/1000/1000 `/` id/1000 `/` id `_` block `_` block length, all decimal, whole quotients, no leading zeros."
 unfoldable pub objectName : ℕ → ℕ → ℕ → List ℕ
-objectName id block len =
-    chunks ++ (decimal (id / 1000 / 1000) ++ (slash ++ (decimal (id / 1000) ++ (slash ++ (decimal id ++ (underscore ++ (decimal block ++ (underscore ++ decimal len))))))))
+objectName id block len = shaped (id / 1000 / 1000) (id / 1000) id block len
 
 -- The same as a form. "The two quotients must agree with the id": the bounds of a number are those of the ids that the quotient before
 -- it leaves.

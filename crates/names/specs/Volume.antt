@@ -26,5 +26,6 @@ unfoldable pub volumeRun : List ℕ → ℕ
 volumeRun [] = 0
 volumeRun (b ∷ rest) = cond (volumeByte b) (suc (volumeRun rest)) 0
 
+-- the step over the volume name that a text begins with: `Stop` at 0 where there is none, and behind the 63rd byte of one that is too long
 abbrev pub volumeAt : List ℕ → Step
 volumeAt text = cond (leb 1 (volumeRun text) && leb (volumeRun text) maxVolume) (Next (volumeRun text) 0) (Stop (min (volumeRun text) maxVolume))

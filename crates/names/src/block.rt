@@ -49,20 +49,20 @@ pub(crate) fn read(text: &[u8], prior: Step) -> ObjectName
     let bar = scan::word_after(text, id, b"_");
     let block = scan::number_after(text, bar, 0, limits::MAX_BLOCK);
     let bar2 = scan::word_after(text, block, b"_");
-    let length = scan::number_after(text, bar2, 1, limits::MAX_LENGTH);
-    match scan::end_after(text, length) {
+    let size = scan::number_after(text, bar2, 1, limits::MAX_LENGTH);
+    match scan::end_after(text, size) {
         Step::Next { at: _, value: _ } => ObjectName::Block {
             id: scan::value_of(id),
             block: scan::value_of(block),
-            length: scan::value_of(length),
+            length: scan::value_of(size),
         },
         Step::Stop(_) => ObjectName::Refused(refusals::refusal(refusals::NOT_OF_FORM)),
     }
 }
 
 // Whether the numbers are those of an object that has a name.
-pub(crate) fn allowed(id: u64, block: u64, length: u64) -> bool
-    ensures { λ r. ⌜ r ≡ objectAllowed id block length ⌝ }
+pub(crate) fn allowed(id: u64, block: u64, size: u64) -> bool
+    ensures { λ r. ⌜ r ≡ objectAllowed id block size ⌝ }
 {
     if id < 1 {
         return false;
@@ -70,10 +70,10 @@ pub(crate) fn allowed(id: u64, block: u64, length: u64) -> bool
     if limits::MAX_BLOCK < block {
         return false;
     }
-    if length < 1 {
+    if size < 1 {
         return false;
     }
-    length <= limits::MAX_LENGTH
+    size <= limits::MAX_LENGTH
 }
 
 // Puts the name of an object into a line.

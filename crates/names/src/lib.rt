@@ -23,12 +23,12 @@ pub enum ObjectName {
 }
 
 // Writes the name of an object.
-pub fn write_object_name(id: u64, block: u64, length: u64, out: &mut [u8]) -> Answer
-    ensures { λ r. ⌜ Answers (writeObject id block length (lib.ListN.length (now (out .entry)))) (now (out .entry)) r (now (out .exit)) ⌝ }
+pub fn write_object_name(id: u64, block: u64, size: u64, out: &mut [u8]) -> Answer
+    ensures { λ r. ⌜ Answers (writeObject id block size (length (now (out .entry)))) (now (out .entry)) r (now (out .exit)) ⌝ }
 {
-    if block::allowed(id, block, length) {
+    if block::allowed(id, block, size) {
         let mut line = [0u8; limits::NAME_ROOM];
-        let n = block::put(&mut line, 0, id, block, length);
+        let n = block::put(&mut line, 0, id, block, size);
         outcomes::deliver(&line[..n], out)
     } else {
         Answer::Refused(refusals::refusal(refusals::NOT_OF_FORM))
@@ -53,17 +53,17 @@ fn put_full(line: &mut [u8], volume: &[u8], id: u64, block: u64, size: u64) -> u
 }
 
 // Writes the full name of an object: its volume's name, a slash and its short name.
-pub fn write_full_name(volume: &[u8], id: u64, block: u64, length: u64, out: &mut [u8]) -> Answer
-    ensures { λ r. ⌜ Answers (writeFull (now (volume .entry)) id block length (lib.ListN.length (now (out .entry)))) (now (out .entry)) r (now (out .exit)) ⌝ }
+pub fn write_full_name(volume: &[u8], id: u64, block: u64, size: u64, out: &mut [u8]) -> Answer
+    ensures { λ r. ⌜ Answers (writeFull (now (volume .entry)) id block size (length (now (out .entry)))) (now (out .entry)) r (now (out .exit)) ⌝ }
 {
     if !volume::allowed(volume) {
         return Answer::Refused(refusals::refusal(refusals::NOT_OF_FORM));
     }
-    if !block::allowed(id, block, length) {
+    if !block::allowed(id, block, size) {
         return Answer::Refused(refusals::refusal(refusals::NOT_OF_FORM));
     }
     let mut line = [0u8; limits::FULL_ROOM];
-    let n = put_full(&mut line, volume, id, block, length);
+    let n = put_full(&mut line, volume, id, block, size);
     outcomes::deliver(&line[..n], out)
 }
 
@@ -76,14 +76,22 @@ pub fn read_full_name(name: &[u8]) -> ObjectName
     block::read(name, slash)
 }
 
+// How long the volume name of a full name is, where the name was read as `named`; 0 where it is refused.
+pub fn volume_length(name: &[u8], named: ObjectName) -> usize
+    requires { ⌜ named ≡ fullAnswer (readFull (now name)) ⌝ }
+    ensures { λ r. ⌜ r ≡ length (volumePart (readFull (now (name .entry)))) ⌝ }
+{
+    if let ObjectName::Refused(_) = named {
+        return 0;
+    }
+    volume::run(name)
+}
+
 // The volume name of a full name, as a part of it; an empty part where the name is refused.
 pub fn volume_of(name: &[u8]) -> &[u8]
     ensures { λ r. ⌜ now r ≡ volumePart (readFull (now (name .entry))) ⌝ }
 {
     let named = read_full_name(name);
-    if let ObjectName::Refused(_) = named {
-        return &name[..0];
-    }
-    let n = volume::run(name);
+    let n = volume_length(name, named);
     &name[..n]
 }

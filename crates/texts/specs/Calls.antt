@@ -1,5 +1,5 @@
 -- What writing and reading come to, for every form. Refusal 13 (paper 01): "a name or key not of the form above, or numbers to be
--- writeText that the form doesn't allow"; it stands before 12. Assumes nothing.
+-- written that the form doesn't allow"; it stands before 12. Assumes nothing.
 use Prim.Native.Nat.{ℕ, _<_, _≤_}
 use mathlib.Core.Path.{_≡_}
 use mathlib.Core.Logic.{_↔_}
@@ -10,7 +10,7 @@ use Rattle.outcomes.specs.Numbers.{notOfForm, shortBuffer}
 use Rattle.outcomes.specs.Outcome.{Outcome, refused, done, refusal, row, firstOf, tooShort}
 use Rattle.texts.specs.Parts.{Scan, found, stop}
 
--- a text is writeText where its numbers are allowed and the buffer of `room` bytes holds it
+-- a text is written where its numbers are allowed and the buffer of `room` bytes holds it
 unfoldable pub writeText : Bool → List ℕ → ℕ → Outcome (List ℕ)
 writeText allowed text room = firstOf (row (not allowed) notOfForm 0 ∷ tooShort text room ∷ []) (done text)
 
@@ -25,5 +25,5 @@ pub record WriterRefuses (outcome : ℕ → Outcome (List ℕ)) (allowed : Bool)
   pub form : (room : ℕ) → (outcome room ≡ refused (refusal notOfForm 0)) ↔ (allowed ≡ false)
   -- else 12 exactly where the buffer is too short
   pub short : (room : ℕ) → (outcome room ≡ refused (refusal shortBuffer 0)) ↔ ((allowed ≡ true) × (room < length text))
-  -- else the text is writeText
+  -- else the text is written
   pub else : (room : ℕ) → (outcome room ≡ done text) ↔ ((allowed ≡ true) × (length text ≤ room))

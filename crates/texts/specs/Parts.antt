@@ -43,18 +43,20 @@ allows (number least most ∷ form) before (n ∷ ns) = (leb (least before) n &&
 
 -- ---- reading
 
--- a word at place i, of which the list is what the text has from there on
+-- Each step's list is what the text has from place i on; `Stop` has the place at which the step gives up.
+
+-- a word at place i: `Stop` at the first byte that differs, or at the text's end
 unfoldable pub wordAt : List ℕ → ℕ → List ℕ → Step
 wordAt [] i text = Next i 0
 wordAt (a ∷ w) i [] = Stop i
 wordAt (a ∷ w) i (b ∷ rest) = cond (eqb b a) (wordAt w (suc i) rest) (Stop i)
 
--- the text's end at place i
+-- the text's end at place i: `Stop` there where a byte is left
 unfoldable pub endAt : ℕ → List ℕ → Step
 endAt i [] = Next i 0
 endAt i (b ∷ rest) = Stop i
 
--- the numbers of a whole text, or the place where it goes wrong
+-- the numbers of a whole text, or the place at which its first step that gives up does so
 pub data Scan : Type 0 where
   found : List ℕ → Scan
   stop : ℕ → Scan

@@ -4,7 +4,7 @@ use codec::put;
 ghost use mathlib.Core.List.{_++_};
 ghost use Prim.Native.Nat.{_+_, _≤_};
 ghost use lib.ListN.{length};
-ghost use Rattle.codec.specs.Decimal.{decimal};
+ghost use Rattle.codec.specs.Decimal.{maxDigits, decimal};
 ghost use Rattle.codec.specs.Splice.{Puts};
 
 // Puts a word into a line.
@@ -17,16 +17,16 @@ pub fn put_word(line: &mut [u8], at: usize, word: &[u8]) -> usize
 
 // Puts n in decimal into a line.
 pub fn put_number(line: &mut [u8], at: usize, n: u64) -> usize
-    requires { ⌜ at + 20 ≤ length (now line) ⌝ }
-    ensures { λ r. ⌜ Puts (now (line .entry)) at (decimal n) 20 r (now (line .exit)) ⌝ }
+    requires { ⌜ at + maxDigits ≤ length (now line) ⌝ }
+    ensures { λ r. ⌜ Puts (now (line .entry)) at (decimal n) maxDigits r (now (line .exit)) ⌝ }
 {
     decimal::put_decimal(line, at, n)
 }
 
 // Puts n in decimal, and the word after it, into a line.
 pub fn put_number_word(line: &mut [u8], at: usize, n: u64, word: &[u8]) -> usize
-    requires { ⌜ at + (20 + length (now word)) ≤ length (now line) ⌝ }
-    ensures { λ r. ⌜ Puts (now (line .entry)) at (decimal n ++ now (word .entry)) (20 + length (now (word .entry))) r (now (line .exit)) ⌝ }
+    requires { ⌜ at + (maxDigits + length (now word)) ≤ length (now line) ⌝ }
+    ensures { λ r. ⌜ Puts (now (line .entry)) at (decimal n ++ now (word .entry)) (maxDigits + length (now (word .entry))) r (now (line .exit)) ⌝ }
 {
     let end = put_number(line, at, n);
     put_word(line, end, word)

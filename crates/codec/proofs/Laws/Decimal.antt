@@ -1,13 +1,13 @@
 -- The laws of `decimal`: its two equations, an induction over a number's digits, and reading it back. Assumes nothing.
 use mathlib.Core.Path.{_≡_, refl, ap, _∙_}
 use mathlib.Core.Bool.{Bool, true, false, cond, _&&_}
-use mathlib.Core.List.{List, [], _∷_, _++_, append-assoc}
+use mathlib.Core.List.{List, [], _∷_, _++_}
 use Prim.Native.Nat.{ℕ, zero, suc, _+_, _-_, _*_, _/_, _%_, _≤_, _<_, _^_}
 use native.Mathlib.Omega.{arith}
 use borrow.Author.Tests.{ltb-true, ltb-false, leb-true, lt-ltb, le-ltb, le-leb}
 use lib.Dec.{ltb, leb}
 use lib.ListN.{length, length-append}
-use Rattle.codec.specs.Decimal.{decimal, decimalFrom, digitOf}
+use Rattle.codec.specs.Decimal.{maxDigits, decimal, decimalFrom, digitOf}
 
 same-depth : (j k n : ℕ) → n ≤ j → n ≤ k → decimalFrom j n ≡ decimalFrom k n
 unfolding decimalFrom
@@ -117,8 +117,7 @@ length-within = decimal-ind (λ n l. (k : ℕ) → n < tenfold (suc k) → lengt
     more n l h ih zero g = absurd (omega arith)
     more n l h ih (suc k) g = simp length-append (omega (arith, ih k (omega arith)))
 
--- a 64-bit number has at most 20 digits
-pub decimal-length : (n : ℕ) → n < 2 ^ 64 → length (decimal n) ≤ 20
+pub decimal-length : (n : ℕ) → n < 2 ^ 64 → length (decimal n) ≤ maxDigits
 unfolding tenfold
 decimal-length n h = length-within n 19 (omega arith)
 
@@ -127,17 +126,3 @@ decimal-some n = rw (spelled n .is) (omega arith)
 
 pub decimal-two : (n : ℕ) → 9 < n → 2 ≤ length (decimal n)
 decimal-two n h = rw (decimal-more n h) (simp length-append (omega (arith, decimal-some (n / 10))))
-
--- a number above 99 is the digits of its hundredth, and its last two
-pub decimal-pair : (n : ℕ) → 99 < n → decimal n ≡ decimal (n / 100) ++ ((48 + n % 100 / 10) ∷ (48 + n % 100 % 10) ∷ [])
-decimal-pair n h =
-    let a : n / 10 / 10 ≡ n / 100 = omega arith in
-    let b : n / 10 % 10 ≡ n % 100 / 10 = omega arith in
-    let c : n % 10 ≡ n % 100 % 10 = omega arith in
-    decimal-more n (omega arith) ∙ rw (decimal-more (n / 10) (omega arith), a, b, c) (append-assoc (decimal (n / 100)) ((48 + n % 100 / 10) ∷ []) ((48 + n % 100 % 10) ∷ []))
-
-pub decimal-three : (n : ℕ) → 99 < n → 3 ≤ length (decimal n)
-decimal-three n h = rw (decimal-pair n h) (simp length-append (omega (arith, decimal-some (n / 100))))
-
-pub decimal-tens : (n : ℕ) → 9 < n → n < 100 → decimal n ≡ (48 + n / 10) ∷ (48 + n % 10) ∷ []
-decimal-tens n h k = decimal-more n h ∙ rw (decimal-digit (n / 10) (omega arith))

@@ -1,34 +1,25 @@
 -- Redis chunk keys: reading is the inverse of writing. Assumes nothing.
 use Prim.Native.Nat.{ℕ, _≤_, _<_}
 use native.Mathlib.Omega.{arith}
-use mathlib.Core.Path.{_≡_, refl, ap, _∙_}
+use mathlib.Core.Path.{_≡_, refl}
 use mathlib.Core.Bool.{true, false, and-eq-true-iff}
 use mathlib.Core.Logic.{_↔_}
 use mathlib.Core.List.{List, [], _∷_, append-nil}
 use borrow.Author.Tests.{le-leb, lt-leb, leb-true}
 use lib.Dec.{leb}
 use Rattle.codec.specs.Decimal.{digitOf}
-use Rattle.codec.specs.declared.scan.Step.{Step}
-use Rattle.codec.specs.declared.scan.Step.the-variants.{Next, Stop}
 use Rattle.outcomes.specs.Numbers.{notOfForm}
 use Rattle.outcomes.specs.Outcome.{refused, done, refusal}
-use Rattle.outcomes.specs.declared.Refusal.{Refusal}
 use Rattle.texts.specs.Limits.{maxNumber}
 use Rattle.keys.specs.Limits.{maxIndex}
-use Rattle.keys.specs.Words.{smallC}
-use Rattle.texts.specs.Words.{underscore}
-use Rattle.texts.specs.Parts.{write, found, with, onward, scan}
-use Rattle.texts.specs.Inner.{wordAfter, numberAfter, endAfter, valueOf}
-use Rattle.texts.specs.Calls.{reading, WriterRefuses}
+use Rattle.texts.specs.Parts.{write}
+use Rattle.texts.specs.Calls.{WriterRefuses}
 use Rattle.texts.specs.Inverse.{Inverse, Any}
-use Rattle.keys.specs.Keys.{Chunk, chunk, chunkAllowed, redisKey, redisForm, chunkOf, readRedis, chunkAnswer, writeRedis}
-use Rattle.keys.specs.declared.ChunkKey.the-variants.{Key, Refused}
+use Rattle.keys.specs.Keys.{Chunk, chunk, chunkAllowed, redisKey, redisForm, chunkOf, readRedis, writeRedis}
 use Rattle.texts.proofs.Laws.Parts.{apart, ends, Allowed, allowed, allowing}
-use Rattle.texts.proofs.Laws.Steps.{on-word, on-number, on-end}
 use Rattle.texts.proofs.Laws.Shows.{Shows, shows-inverse}
 use Rattle.texts.proofs.Laws.Calls.{writer-refuses}
 use Rattle.texts.proofs.Laws.Inverse as inverse
-use Rattle.outcomes.specs.Answers.{answerOf}
 
 -- ---- which chunks have a key
 
@@ -102,30 +93,3 @@ redis-key-refused-exactly t = inverse.refused-exactly redis-key t tt
 -- writing gives 13 exactly where the numbers are not allowed, else 12 exactly where the buffer is too short
 pub write-redis-refused-exactly : (inode index : ℕ) → WriterRefuses (writeRedis inode index) (chunkAllowed inode index) (redisKey inode index)
 write-redis-refused-exactly inode index = writer-refuses (chunkAllowed inode index) (redisKey inode index)
-
--- ---- the steps of the reader, one for each part of the form
-
--- what the steps come to: s2 and s4 are those of the two numbers, s5 the text's end
-pub record RedisRead (text : List ℕ) (s2 s4 s5 : Step) : Type 0 where
-  pub whole : scan redisForm text [] 0 ≡ with (valueOf s2) (with (valueOf s4) (onward s5 (λ i v. found [])))
-
-pub redis-steps : (text : List ℕ) (s0 s1 s2 s3 s4 s5 : Step) → s0 ≡ Next 0 0 → s1 ≡ wordAfter smallC text s0 → s2 ≡ numberAfter 0 maxNumber text s1
-    → s3 ≡ wordAfter underscore text s2 → s4 ≡ numberAfter 0 maxIndex text s3 → s5 ≡ endAfter text s4 → RedisRead text s2 s4 s5
-redis-steps text s0 s1 s2 s3 s4 s5 e0 e1 e2 e3 e4 e5 =
-    record {
-      whole =
-          on-word _ text [] smallC (Next 0 0) s1 (rw e0 at e1) ∙ on-number _ text [] (λ before. 0) (λ before. maxNumber) s1 s2 e2
-          ∙ ap (with (valueOf s2)) (on-word _ text _ underscore s2 s3 e3 ∙ on-number _ text _ (λ before. 0) (λ before. maxIndex) s3 s4 e4
-          ∙ ap (with (valueOf s4)) (on-end text _ s4 s5 e5));
-    }
-
-module _ {text : List ℕ} {s2 s4 s5 : Step} (read : RedisRead text s2 s4 s5) where
-  -- the text ends where the key does
-  pub redis-found : (i v inode index : ℕ) → s5 ≡ Next i v → inode ≡ valueOf s2 → index ≡ valueOf s4 → Key inode index ≡ chunkAnswer (readRedis text)
-  unfolding readRedis answerOf reading
-  redis-found i v inode index e ei ej = rw (read .whole, e, ei, ej)
-
-  -- the text is no key
-  pub redis-stopped : (i : ℕ) (r : Refusal) → s5 ≡ Stop i → r ≡ refusal notOfForm 0 → Refused r ≡ chunkAnswer (readRedis text)
-  unfolding readRedis answerOf reading
-  redis-stopped i r e er = rw (read .whole, e, er)

@@ -25,6 +25,22 @@ use Rattle.texts.specs.Calls.{WriterRefuses}
 use Rattle.texts.proofs.Laws.Calls.{writer-refuses}
 use Rattle.texts.proofs.Laws.Inverse as inverse
 
+-- ---- the numbers of a key
+
+inode-back : (i j : ℕ) → i < 2 ^ 64 → littleAt (tkvKey i j) 1 8 ≡ i
+unfolding tkvKey
+inode-back i j h = little-back (65 ∷ []) 8 i (67 ∷ bigEndian 4 j) h
+
+index-back : (i j : ℕ) → j < 2 ^ 32 → numberAt (tkvKey i j) 10 4 ≡ j
+unfolding tkvKey
+index-back i j h =
+    let front : List ℕ = 65 ∷ (littleEndian 8 i ++ (67 ∷ [])) in
+    let n : length front ≡ 10 = simp (length-append, length-littleEndian 8 i) in
+    let e : 65 ∷ (littleEndian 8 i ++ (67 ∷ bigEndian 4 j)) ≡ front ++ bigEndian 4 j = ap (λ (l : List ℕ). 65 ∷ l) (sym (append-assoc (littleEndian 8 i) (67 ∷ []) (bigEndian 4 j))) in
+    let b : numberAt (front ++ bigEndian 4 j) (length front + 0) 4 ≡ numberAt (bigEndian 4 j) 0 4 = numberAt-behind front (bigEndian 4 j) 0 4 in
+    let w : numberAt (bigEndian 4 j ++ []) 0 4 ≡ j = number-back 4 j [] h in
+    rw e (rw n at b ∙ (rw append-nil at w))
+
 -- ---- the shape of a key
 
 pub record Shaped (key : List ℕ) : Type 0 where
@@ -65,20 +81,6 @@ read-shaped key s = rw s
 pub read-unshaped : (key : List ℕ) → tkvShape key ≡ false → readTkv key ≡ refused (refusal notOfForm 0)
 unfolding readTkv firstOf
 read-unshaped key s = rw s
-
-inode-back : (i j : ℕ) → i < 2 ^ 64 → littleAt (tkvKey i j) 1 8 ≡ i
-unfolding tkvKey
-inode-back i j h = little-back (65 ∷ []) 8 i (67 ∷ bigEndian 4 j) h
-
-index-back : (i j : ℕ) → j < 2 ^ 32 → numberAt (tkvKey i j) 10 4 ≡ j
-unfolding tkvKey
-index-back i j h =
-    let front : List ℕ = 65 ∷ (littleEndian 8 i ++ (67 ∷ [])) in
-    let n : length front ≡ 10 = simp (length-append, length-littleEndian 8 i) in
-    let e : 65 ∷ (littleEndian 8 i ++ (67 ∷ bigEndian 4 j)) ≡ front ++ bigEndian 4 j = ap (λ (l : List ℕ). 65 ∷ l) (sym (append-assoc (littleEndian 8 i) (67 ∷ []) (bigEndian 4 j))) in
-    let b : numberAt (front ++ bigEndian 4 j) (length front + 0) 4 ≡ numberAt (bigEndian 4 j) 0 4 = numberAt-behind front (bigEndian 4 j) 0 4 in
-    let w : numberAt (bigEndian 4 j ++ []) 0 4 ≡ j = number-back 4 j [] h in
-    rw e (rw n at b ∙ (rw append-nil at w))
 
 -- a key of the right shape is the letter, eight bytes, the letter, four bytes
 joined : (key : List ℕ) → Shaped key → key ≡ 65 ∷ (take 8 (drop 1 key) ++ (67 ∷ take 4 (drop 10 key)))

@@ -1,15 +1,22 @@
 -- `keys::read_redis_key` meets its contract: one step for each part of the form. Assumes nothing.
 use denote.Ref.{now}
-use Rattle.keys.proofs.Laws.Keys.{RedisRead, redis-steps, redis-found, redis-stopped}
+use mathlib.Core.List.{[], _∷_}
+use Rattle.codec.specs.declared.scan.Step.the-variants.{Next}
+use Rattle.texts.specs.Inner.{valueOf}
+use Rattle.texts.proofs.Laws.Steps.{Chain, by-end, by-word, by-number, answer-found, answer-stopped}
+use Rattle.keys.specs.Keys.{redisForm, chunkOf, readRedis}
 use borrow.Author.Needs.{needs}
 use Rattle.keys.proofs.read_redis_key.Statement.{statement}
 use Rattle.keys.proofs.read_redis_key.Tie as tie
 
--- what the steps come to
-steps : (c : tie.After-end-after) → RedisRead (now (c .before .before .before .before .before .before .before .before .before .args .key)) (c .before .before .before .before .number-after .result) (c .before .number-after2 .result) (c .end-after .result)
+-- the steps, one for each part of the form
+steps : (c : tie.After-end-after) → let n1 = c .before .before .before .before in
+    Chain (now (n1 .before .before .before .before .before .args .key)) redisForm [] (Next 0 0) (valueOf (n1 .number-after .result) ∷ valueOf (c .before .number-after2 .result) ∷ []) (c .end-after .result)
 steps c =
-    let w1 = c .before .before .before .before .before in
-    redis-steps _ _ _ _ _ _ _ (w1 .before .before .start .ensures) (w1 .word-after .ensures) (c .before .before .before .before .number-after .ensures) (c .before .before .word-after2 .ensures) (c .before .number-after2 .ensures) (c .end-after .ensures)
+    let n1 = c .before .before .before .before in
+    let w1 = n1 .before in
+    by-word (rw (w1 .before .before .start .ensures) at (w1 .word-after .ensures)) (by-number (n1 .number-after .ensures)
+    (by-word (c .before .before .word-after2 .ensures) (by-number (c .before .number-after2 .ensures) (by-end (c .end-after .ensures)))))
 
 start-requires : tie.Need-start-requires
 start-requires c κs = search needs
@@ -51,10 +58,12 @@ refusal-requires : tie.Need-refusal-requires
 refusal-requires c κs = search needs
 
 returns : tie.Need-returns
-returns c = redis-found (steps (c .before .before .before .before)) _ _ _ _ (c .before .before .enum-told .given .1) (c .before .value-of .ensures) (c .value-of2 .ensures)
+unfolding readRedis
+returns c = rw (c .before .value-of .ensures, c .value-of2 .ensures) (answer-found _ _ chunkOf (steps (c .before .before .before .before)) (c .before .before .enum-told .given .1))
 
 returns-2 : tie.Need-returns-2
-returns-2 c = redis-stopped (steps (c .before .before .before)) _ _ (c .before .enum-told2 .given .1) (c .refusal .ensures)
+unfolding readRedis
+returns-2 c = answer-stopped _ _ chunkOf (steps (c .before .before .before)) (c .before .enum-told2 .given .1) (c .refusal .ensures)
 
 pub read-redis-key-spec : {M : Type 1} → statement M
 read-redis-key-spec =

@@ -1,5 +1,9 @@
 -- `keys::tkv_shape` meets its contract, case by case. Assumes nothing.
+use native.Mathlib.Omega.{arith}
 use borrow.Author.Tests.{eq-eqb, ne-eqb}
+use lib.ListN.{length}
+use denote.Ref.{now}
+use Rattle.keys.specs.Limits.{tkvSize}
 use Rattle.keys.specs.Keys.{tkvShape}
 use Rattle.keys.proofs.Laws.Tkv.{shape-last}
 use borrow.Author.Needs.{needs}
@@ -8,7 +12,7 @@ use Rattle.keys.proofs.tkv_shape.Tie as tie
 
 returns : tie.Need-returns
 unfolding tkvShape
-returns c = simp (ne-eqb _ _ (c .if1 .taken))
+returns c = simp (ne-eqb (length (now (c .before .args .key))) tkvSize (omega arith))
 
 shared-slice-read-if2 : tie.Need-shared-slice-read-if2
 shared-slice-read-if2 c = search needs

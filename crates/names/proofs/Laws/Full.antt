@@ -5,7 +5,7 @@ use mathlib.Core.Path.{_≡_, refl, sym, ap, _∙_}
 use mathlib.Core.Bool.{Bool, true, false, cond, _&&_, and-eq-true-iff}
 use mathlib.Core.Logic.{_↔_}
 use mathlib.Core.List.{List, [], _∷_, _++_}
-use borrow.Author.Tests.{le-leb, leb-true}
+use borrow.Author.Tests.{le-leb}
 use lib.Dec.{leb}
 use lib.ListN.{length, take, drop, take-append-drop}
 use lib.Seq.{drop-append-seam, take-append-seam}
@@ -28,7 +28,7 @@ use Rattle.names.specs.declared.ObjectName.the-variants.{Block, Refused}
 use Rattle.texts.proofs.Laws.Parts.{apart}
 use Rattle.texts.proofs.Laws.Steps.{on-word}
 use Rattle.texts.proofs.Laws.Shows.{Shows, shows-back, shows-forth}
-use Rattle.names.proofs.Laws.Volume.{right, is-right, run-writes, run-reads}
+use Rattle.names.proofs.Laws.Volume.{right, run-writes, run-reads}
 use Rattle.names.proofs.Laws.Names.{shown, name-text, name-shows}
 use Rattle.texts.proofs.Laws.Calls.{writer-refuses, reading-only}
 use Rattle.texts.proofs.Laws.Inverse as inverse
@@ -73,27 +73,24 @@ refused-done : {A B : Type 0} {r : Refusal} {o : A} → refused r ≡ done o →
 refused-done e = let z : _≡_ {A = ℕ} 0 1 = cc in absurd (omega arith)
 
 full-forth : (t : List ℕ) (f : Full) → readFull t ≡ done f → (t ≡ text f) × (allowed f ≡ true)
-unfolding readFull fullName fullScan inVolume fullAllowed reading
+unfolding readFull fullName fullScan inVolume fullAllowed volumeAllowed reading
 full-forth t f r = of-outcome (reading objectOf (fullScan t)) refl r
   where
-    by-run : (o : Object) → f ≡ full (take (volumeRun t) t) o → (s : Bool) → leb 1 (volumeRun t) ≡ s → (u : Bool) → leb (volumeRun t) maxVolume ≡ u
-        → reading objectOf (onward (cond (s && u) (Next (volumeRun t) 0) (Stop (min (volumeRun t) maxVolume))) (λ i v. scan fullForm t [] i)) ≡ done o
+    by-run : (o : Object) → f ≡ full (take (volumeRun t) t) o → (s : Bool) → leb 1 (volumeRun t) && leb (volumeRun t) maxVolume ≡ s
+        → reading objectOf (onward (cond s (Next (volumeRun t) 0) (Stop (min (volumeRun t) maxVolume))) (λ i v. scan fullForm t [] i)) ≡ done o
         → (t ≡ text f) × (allowed f ≡ true)
-    by-run o p true e true g q =
+    by-run o p true e q =
         let m = shows-forth full-shows t (volumeRun t) o q in
         let k = run-reads t in
-        let v : volumeAllowed (take (volumeRun t) t) ≡ true =
-        is-right _ (record { some = rw (k .1) (leb-true _ _ e); most = rw (k .1) (leb-true _ _ g); bytes = k .0 }) in
+        let v : volumeAllowed (take (volumeRun t) t) ≡ true = rw (k .1, e, k .0) in
         rw p (sym (take-append-drop (volumeRun t) t) ∙ ap (λ (l : List ℕ). take (volumeRun t) t ++ l) (m .0 ∙ sym (full-text o)), simp (v, m .1))
-    by-run o p true e false g q = refused-done q
-    by-run o p false e true g q = refused-done q
-    by-run o p false e false g q = refused-done q
+    by-run o p false e q = refused-done q
 
     of-outcome : (o : Outcome Object) → reading objectOf (fullScan t) ≡ o → inVolume (take (volumeRun t) t) o ≡ done f → (t ≡ text f) × (allowed f ≡ true)
     of-outcome (refused x) e q = let z : _≡_ {A = ℕ} 0 1 = cc in absurd (omega arith)
     of-outcome (done o) e q =
         let p : f ≡ full (take (volumeRun t) t) o = cc in
-        by-run o p (leb 1 (volumeRun t)) refl (leb (volumeRun t) maxVolume) refl e
+        by-run o p (leb 1 (volumeRun t) && leb (volumeRun t) maxVolume) refl e
 
 full-only : (t : List ℕ) (r : Refusal) → readFull t ≡ refused r → r ≡ refusal notOfForm 0
 unfolding readFull inVolume
@@ -129,10 +126,19 @@ full-name-refused-exactly t = inverse.refused-exactly full-name t tt
 pub write-full-refused-exactly : (volume : List ℕ) (id block len : ℕ) → WriterRefuses (writeFull volume id block len) (fullAllowed volume id block len) (fullName volume id block len)
 write-full-refused-exactly volume id block len = writer-refuses (fullAllowed volume id block len) (fullName volume id block len)
 
--- the volume part is empty exactly on a refusal, and else the volume name
+-- the volume part is the volume name
 pub volume-back : (volume : List ℕ) (id block len : ℕ) → fullAllowed volume id block len ≡ true → volumePart (readFull (fullName volume id block len)) ≡ volume
 unfolding volumePart
 volume-back volume id block len a = rw (full-name-back volume id block len a)
+
+-- and the front of the text
+pub volume-front : (t : List ℕ) → take (length (volumePart (readFull t))) t ≡ volumePart (readFull t)
+unfolding readFull volumePart inVolume
+volume-front t = go (reading objectOf (fullScan t))
+  where
+    go : (o : Outcome Object) → take (length (volumePart (inVolume (take (volumeRun t) t) o))) t ≡ volumePart (inVolume (take (volumeRun t) t) o)
+    go (refused x) = refl
+    go (done o) = rw (run-reads t .1)
 
 -- no text is both a full name and a short one
 pub full-not-short : (t : List ℕ) (f : Full) (o : Object) → readFull t ≡ done f → readObject t ≡ done o → ⊥
@@ -167,16 +173,16 @@ unfolding readFull fullScan
 full-steps t s0 s1 e0 e1 =
     ap (λ (x : Scan). objectAnswer (reading objectOf x)) (sym (on-word nameForm t [] slash (volumeAt t) s1 (rw e0 at e1))) ∙ answer-same (take (volumeRun t) t) _
 
--- the part that is handed back
-pub volume-none : (o : Outcome Full) (r : Refusal) → Refused r ≡ fullAnswer o → [] ≡ volumePart o
+-- the length of the part that is handed back
+pub volume-none : (o : Outcome Full) (r : Refusal) → Refused r ≡ fullAnswer o → 0 ≡ length (volumePart o)
 unfolding answerOf volumePart
 volume-none (refused x) r e = refl
 volume-none (done f) r e = let z : _≡_ {A = ℕ} 0 1 = cc in absurd (omega arith)
 
-pub volume-some : (t : List ℕ) (id block len : ℕ) → Block id block len ≡ fullAnswer (readFull t) → take (volumeRun t) t ≡ volumePart (readFull t)
+pub volume-some : (t : List ℕ) (id block len : ℕ) → Block id block len ≡ fullAnswer (readFull t) → volumeRun t ≡ length (volumePart (readFull t))
 unfolding readFull answerOf volumePart inVolume
 volume-some t id block len e = go (reading objectOf (fullScan t)) e
   where
-    go : (o : Outcome Object) → Block id block len ≡ fullAnswer (inVolume (take (volumeRun t) t) o) → take (volumeRun t) t ≡ volumePart (inVolume (take (volumeRun t) t) o)
+    go : (o : Outcome Object) → Block id block len ≡ fullAnswer (inVolume (take (volumeRun t) t) o) → volumeRun t ≡ length (volumePart (inVolume (take (volumeRun t) t) o))
     go (refused x) e = let z : _≡_ {A = ℕ} 0 1 = cc in absurd (omega arith)
-    go (done o) e = refl
+    go (done o) e = sym (run-reads t .1)

@@ -4,10 +4,10 @@ use native.Mathlib.Omega.{arith}
 use mathlib.Core.Path.{_≡_, refl, sym, _∙_}
 use mathlib.Core.Bool.{true, _&&_, and-eq-true-iff}
 use mathlib.Core.Logic.{_↔_}
-use mathlib.Core.List.{List, [], _∷_, _++_, append-nil}
+use mathlib.Core.List.{List, [], _∷_, append-nil}
 use borrow.Author.Tests.{le-leb, leb-true}
 use lib.Dec.{leb}
-use Rattle.codec.specs.Decimal.{decimal, digitOf}
+use Rattle.codec.specs.Decimal.{digitOf}
 use Rattle.outcomes.specs.Numbers.{notOfForm}
 use Rattle.outcomes.specs.Outcome.{refused, done, refusal}
 use Rattle.texts.specs.Limits.{maxNumber}
@@ -16,7 +16,7 @@ use Rattle.texts.specs.Words.{slash, underscore}
 use Rattle.names.specs.Words.{chunks}
 use Rattle.texts.specs.Parts.{Part, word, within, write, allows}
 use Rattle.texts.specs.Inverse.{Inverse, Any}
-use Rattle.names.specs.Names.{Object, object, objectAllowed, objectName, nameForm, objectOf, readObject, writeObject}
+use Rattle.names.specs.Names.{Object, object, objectAllowed, shaped, objectName, nameForm, objectOf, readObject, writeObject}
 use Rattle.texts.proofs.Laws.Parts.{apart, ends, Allowed, allowed, allowing, distinct}
 use Rattle.texts.proofs.Laws.Shows.{Shows, shows-forth, shows-inverse}
 use Rattle.texts.specs.Calls.{WriterRefuses}
@@ -109,11 +109,7 @@ write-object-refused-exactly id block len = writer-refuses (objectAllowed id blo
 
 -- ---- the two quotients agree with the id
 
--- the shape of a name, with any numbers in it
-abbrev pub shaped : ℕ → ℕ → ℕ → ℕ → ℕ → List ℕ
-shaped a b id block len = chunks ++ (decimal a ++ (slash ++ (decimal b ++ (slash ++ (decimal id ++ (underscore ++ (decimal block ++ (underscore ++ decimal len))))))))
-
--- the same as a form, with numbers up to a bound
+-- the shape of a name as a form, with numbers up to a bound
 abbrev loose : ℕ → List Part
 loose most = word chunks ∷ within 0 most ∷ word slash ∷ within 0 most ∷ word slash ∷ within 0 most ∷ word underscore ∷ within 0 most ∷ word underscore ∷ within 0 most ∷ []
 

@@ -78,7 +78,3 @@ right volume v =
     let a = and-eq-true-iff (leb 1 (length volume) && leb (length volume) maxVolume) (volumeBytes volume) .0 v in
     let b = and-eq-true-iff (leb 1 (length volume)) (leb (length volume) maxVolume) .0 (a .0) in
     record { some = leb-true _ _ (b .0); most = leb-true _ _ (b .1); bytes = a .1 }
-
-pub is-right : (volume : List ℕ) → Right volume → volumeAllowed volume ≡ true
-unfolding volumeAllowed
-is-right volume r = simp (le-leb 1 (length volume) (r .some), le-leb (length volume) maxVolume (r .most), r .bytes)

@@ -1,10 +1,10 @@
--- `names::volume_of` meets its contract: the front of a name that is read, and nothing of one that is refused. Assumes nothing.
+-- `names::volume_of` meets its contract: the front of the name, as long as its volume name. Assumes nothing.
 use native.Mathlib.Omega.{arith}
 use Prim.Native.Nat.{ℕ}
-use mathlib.Core.Path.{sym, ap, _∙_}
-use lib.ListN.{take, length-take}
+use mathlib.Core.Path.{ap, _∙_}
+use lib.ListN.{length, take, length-take}
 use denote.Ref.{now}
-use Rattle.names.proofs.Laws.Full.{volume-none, volume-some}
+use Rattle.names.proofs.Laws.Full.{volume-front}
 use borrow.Author.Needs.{needs}
 use Rattle.names.proofs.volume_of.Statement.{statement}
 use Rattle.names.proofs.volume_of.Tie as tie
@@ -12,38 +12,20 @@ use Rattle.names.proofs.volume_of.Tie as tie
 read-full-name-requires : tie.Need-read-full-name-requires
 read-full-name-requires c κs = search needs
 
-enum-told : tie.Need-enum-told
-enum-told c = search needs
+volume-length-requires : tie.Need-volume-length-requires
+volume-length-requires c κs = search needs
 
 slice-aggregate-result : tie.Need-slice-aggregate-result
-slice-aggregate-result c = search needs
+slice-aggregate-result c =
+    let name = now (c .before .before .before .before .args .name) in
+    simp length-take (omega (arith, c .before .volume-length .ensures, simp length-take at (ap length (volume-front name))))
 
 returns : tie.Need-returns
-returns c = volume-none _ _ (sym (c .before .enum-told .given .1) ∙ c .before .before .before .read-full-name .ensures)
-
-enum-told-2 : tie.Need-enum-told-2
-enum-told-2 c = search needs
-
-run-requires : tie.Need-run-requires
-run-requires c κs = search needs
-
-slice-aggregate-result-2 : tie.Need-slice-aggregate-result-2
-slice-aggregate-result-2 c = simp length-take (omega (arith, c .before .run .ensures .1))
-
-returns-2 : tie.Need-returns-2
-returns-2 c =
-    let name = now (c .before .before .before .before .before .before .args .name) in
-    ap (λ (k : ℕ). take k name) (c .before .run .ensures .0) ∙ volume-some name _ _ _ (sym (c .before .before .enum-told2 .given .1) ∙ c .before .before .before .before .read-full-name .ensures)
+returns c =
+    let name = now (c .before .before .before .before .args .name) in
+    ap (λ (k : ℕ). take k name) (c .before .volume-length .ensures) ∙ volume-front name
 
 pub volume-of-spec : {M : Type 1} → statement M
 volume-of-spec =
     tie.close
-    (tie.spec
-    read-full-name-requires
-    enum-told
-    slice-aggregate-result
-    returns
-    enum-told-2
-    run-requires
-    slice-aggregate-result-2
-    returns-2)
+    (tie.spec read-full-name-requires volume-length-requires slice-aggregate-result returns)

@@ -31,7 +31,7 @@ unfolding fullAllowed
 returns c =
     let a = c .before .before .before .before .before .args in
     let v : volumeAllowed (now (a .volume)) ≡ false = sym (c .before .before .allowed .ensures) ∙ not-true _ (c .before .if1 .taken) in
-    answers-not (fullAllowed (now (a .volume)) (a .id) (a .block) (a .length)) (fullName (now (a .volume)) (a .id) (a .block) (a .length)) (now (a .out)) _ (rw v) (c .refusal .ensures)
+    answers-not (fullAllowed (now (a .volume)) (a .id) (a .block) (a .size)) (fullName (now (a .volume)) (a .id) (a .block) (a .size)) (now (a .out)) _ (rw v) (c .refusal .ensures)
 
 allowed-requires-2 : tie.Need-allowed-requires-2
 allowed-requires-2 c κs = search needs
@@ -44,8 +44,8 @@ unfolding fullAllowed
 returns-2 c =
     let a = c .before .before .before .before .before .before .before .args in
     let v : volumeAllowed (now (a .volume)) ≡ true = sym (c .before .before .before .before .allowed .ensures) ∙ not-false _ (c .before .before .before .if1 .left) in
-    let o : objectAllowed (a .id) (a .block) (a .length) ≡ false = sym (c .before .before .allowed2 .ensures) ∙ not-true _ (c .before .if2 .taken) in
-    answers-not (fullAllowed (now (a .volume)) (a .id) (a .block) (a .length)) (fullName (now (a .volume)) (a .id) (a .block) (a .length)) (now (a .out)) _ (rw (v, o)) (c .refusal2 .ensures)
+    let o : objectAllowed (a .id) (a .block) (a .size) ≡ false = sym (c .before .before .allowed2 .ensures) ∙ not-true _ (c .before .if2 .taken) in
+    answers-not (fullAllowed (now (a .volume)) (a .id) (a .block) (a .size)) (fullName (now (a .volume)) (a .id) (a .block) (a .size)) (now (a .out)) _ (rw (v, o)) (c .refusal2 .ensures)
 
 slice-aggregate-put-full : tie.Need-slice-aggregate-put-full
 slice-aggregate-put-full c = search needs
@@ -70,8 +70,8 @@ unfolding fullAllowed
 returns-3 c =
     let a = c .before .before .before .before .before .before .before .before .before .before .before .before .before .before .args in
     let v : volumeAllowed (now (a .volume)) ≡ true = sym (c .before .before .before .before .before .before .before .before .before .before .before .allowed .ensures) ∙ not-false _ (c .before .before .before .before .before .before .before .before .before .before .if1 .left) in
-    let o : objectAllowed (a .id) (a .block) (a .length) ≡ true = sym (c .before .before .before .before .before .before .before .before .before .allowed2 .ensures) ∙ not-false _ (c .before .before .before .before .before .before .before .before .if2 .left) in
-    answers-line (fullAllowed (now (a .volume)) (a .id) (a .block) (a .length)) (fullName (now (a .volume)) (a .id) (a .block) (a .length)) _ (now (a .out)) _ _ (rw (v, o)) (puts-front (c .before .before .before .before .before .before .put-full .ensures)) (c .before .before .deliver .ensures)
+    let o : objectAllowed (a .id) (a .block) (a .size) ≡ true = sym (c .before .before .before .before .before .before .before .before .before .allowed2 .ensures) ∙ not-false _ (c .before .before .before .before .before .before .before .before .if2 .left) in
+    answers-line (fullAllowed (now (a .volume)) (a .id) (a .block) (a .size)) (fullName (now (a .volume)) (a .id) (a .block) (a .size)) _ (now (a .out)) _ _ (rw (v, o)) (puts-front (c .before .before .before .before .before .before .put-full .ensures)) (c .before .before .deliver .ensures)
 
 pub write-full-name-spec : {M : Type 1} → statement M
 write-full-name-spec =

@@ -37,12 +37,12 @@ same-length c = search needs
 returns : tie.Need-returns
 returns c =
     let a = c .before .before .before .before .before .before .before .before .before .before .before .args in
-    answers-line (objectAllowed (a .id) (a .block) (a .length)) (objectName (a .id) (a .block) (a .length)) _ (now (a .out)) _ _ (sym (c .before .before .before .before .before .before .before .before .before .allowed .ensures) ∙ c .before .before .before .before .before .before .before .before .if1 .taken) (puts-front (c .before .before .before .before .before .before .put .ensures)) (c .before .before .deliver .ensures)
+    answers-line (objectAllowed (a .id) (a .block) (a .size)) (objectName (a .id) (a .block) (a .size)) _ (now (a .out)) _ _ (sym (c .before .before .before .before .before .before .before .before .before .allowed .ensures) ∙ c .before .before .before .before .before .before .before .before .if1 .taken) (puts-front (c .before .before .before .before .before .before .put .ensures)) (c .before .before .deliver .ensures)
 
 returns-2 : tie.Need-returns-2
 returns-2 c =
     let a = c .before .before .before .before .args in
-    answers-not (objectAllowed (a .id) (a .block) (a .length)) (objectName (a .id) (a .block) (a .length)) (now (a .out)) _ (sym (c .before .before .allowed .ensures) ∙ c .before .if1 .left) (c .refusal .ensures)
+    answers-not (objectAllowed (a .id) (a .block) (a .size)) (objectName (a .id) (a .block) (a .size)) (now (a .out)) _ (sym (c .before .before .allowed .ensures) ∙ c .before .if1 .left) (c .refusal .ensures)
 
 pub write-object-name-spec : {M : Type 1} → statement M
 write-object-name-spec =

@@ -59,7 +59,7 @@ module _ (allowed : Bool) (text : List ℕ) (room : ℕ) where
       go true false h e = let z : _≡_ {A = ℕ} 0 1 = cc in absurd (omega arith)
       go false u h e = differ (sym e)
 
-  -- else the text is writeText
+  -- else the text is written
   pub write-done : (writeText allowed text room ≡ done text) ↔ ((allowed ≡ true) × (length text ≤ room))
   unfolding writeText firstOf
   write-done = (λ e. go allowed (ltb room (length text)) refl e, λ h. rw (h .0, le-ltb room (length text) (h .1)))

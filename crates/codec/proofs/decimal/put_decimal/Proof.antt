@@ -7,7 +7,7 @@ use mathlib.Core.List.{List}
 use lib.ListN.{length, take, drop, length-drop}
 use lib.Seq.{take-all}
 use denote.Ref.{now}
-use Rattle.codec.specs.Decimal.{decimal}
+use Rattle.codec.specs.Decimal.{maxDigits, decimal}
 use Rattle.codec.specs.Splice.{splice}
 use Rattle.codec.proofs.Laws.Decimal.{decimal-length}
 use borrow.Author.Needs.{needs}
@@ -42,8 +42,8 @@ returns c =
     let s = d .before .before .before in
     let from = d .digits .result in
     let out = d .digits .last .1 .0 in
-    let part : take (20 - from) (drop from out) ≡ decimal (s .args .n) =
-    take-all (20 - from) (drop from out) (simp length-drop (omega (arith, d .digits .kept .1 .0))) ∙ d .digits .ensures .1 in
+    let part : take (maxDigits - from) (drop from out) ≡ decimal (s .args .n) =
+    take-all (maxDigits - from) (drop from out) (simp length-drop (omega (arith, d .digits .kept .1 .0))) ∙ d .digits .ensures .1 in
     let r : c .before .before .put .result ≡ s .args .at + length (decimal (s .args .n)) = p .0 ∙ ap (λ (l : List ℕ). s .args .at + length l) part in
     (r, omega (arith, r, decimal-length (s .args .n) (s .fits .n .fits)), p .1 ∙ ap (splice (now (s .args .out)) (s .args .at)) part)
 

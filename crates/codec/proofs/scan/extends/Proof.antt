@@ -8,7 +8,7 @@ use Rattle.codec.proofs.scan.extends.Statement.{statement}
 use Rattle.codec.proofs.scan.extends.Tie as tie
 
 returns : tie.Need-returns
-returns c = simp (lt-leb _ _ (c .if1 .taken))
+returns c = simp (lt-leb 1 (c .before .args .value) (omega arith))
 
 returns-2 : tie.Need-returns-2
 returns-2 c = let a = c .before .before .args in simp (le-leb 1 (a .value) (c .before .if1 .left), lt-leb (a .value * 10 + a .d) (a .most) (omega (arith, c .if2 .taken)))

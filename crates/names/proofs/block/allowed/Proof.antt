@@ -18,11 +18,11 @@ returns-2 c = let a = c .before .before .args in let top : a .id ≤ maxNumber =
 
 returns-3 : tie.Need-returns-3
 unfolding objectAllowed
-returns-3 c = let a = c .before .before .before .args in let top : a .id ≤ maxNumber = omega arith in simp (le-leb 1 (a .id) (c .before .before .if1 .left), le-leb (a .id) maxNumber top, le-leb (a .block) maxBlock (c .before .if2 .left), lt-leb 1 (a .length) (c .if3 .taken))
+returns-3 c = let a = c .before .before .before .args in let top : a .id ≤ maxNumber = omega arith in simp (le-leb 1 (a .id) (c .before .before .if1 .left), le-leb (a .id) maxNumber top, le-leb (a .block) maxBlock (c .before .if2 .left), lt-leb 1 (a .size) (c .if3 .taken))
 
 returns-4 : tie.Need-returns-4
 unfolding objectAllowed
-returns-4 c = let a = c .before .before .before .args in let top : a .id ≤ maxNumber = omega arith in simp (le-leb 1 (a .id) (c .before .before .if1 .left), le-leb (a .id) maxNumber top, le-leb (a .block) maxBlock (c .before .if2 .left), le-leb 1 (a .length) (c .if3 .left))
+returns-4 c = let a = c .before .before .before .args in let top : a .id ≤ maxNumber = omega arith in simp (le-leb 1 (a .id) (c .before .before .if1 .left), le-leb (a .id) maxNumber top, le-leb (a .block) maxBlock (c .before .if2 .left), le-leb 1 (a .size) (c .if3 .left))
 
 pub allowed-spec : {M : Type 1} → statement M
 allowed-spec = tie.close (tie.spec returns returns-2 returns-3 returns-4)

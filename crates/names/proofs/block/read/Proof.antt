@@ -1,18 +1,23 @@
 -- `names::block::read` meets its contract: one step for each part of the form. Assumes nothing.
 use Prim.Native.Nat.{_*_, _/_, _≤_}
 use native.Mathlib.Omega.{arith}
+use mathlib.Core.List.{[], _∷_}
 use denote.Ref.{now}
 use Rattle.texts.specs.Limits.{maxNumber}
 use Rattle.texts.specs.Inner.{valueOf}
-use Rattle.texts.proofs.Laws.Steps.{value-within}
-use Rattle.names.proofs.Laws.Reader.{NameRead, name-steps, name-found, name-stopped}
+use Rattle.texts.proofs.Laws.Steps.{value-within, Chain, by-end, by-word, by-number, answer-found, answer-stopped}
+use Rattle.names.specs.Names.{nameForm, objectOf}
 use borrow.Author.Needs.{needs}
 use Rattle.names.proofs.block.read.Statement.{statement}
 use Rattle.names.proofs.block.read.Tie as tie
 
--- what the steps come to
-steps : (c : tie.After-end-after) → let a = c .before .before .before .before .before .before .before .before .before .before .before .before .before .before .before .before .before .before .before .before .before .before .args in
-    NameRead (now (a .text)) (a .prior) (c .before .before .before .before .before .before .before .number-after3 .result) (c .before .before .before .before .number-after4 .result) (c .before .number-after5 .result) (c .end-after .result)
+-- the steps, one for each part of the form
+steps : (c : tie.After-end-after) → let n4 = c .before .before .before .before in
+    let n3 = n4 .before .before .before in
+    let n2 = n3 .before .before .before .before .before .before in
+    let n1 = n2 .before .before .before .before .before in
+    let a = n1 .before .before .before .before .args in
+    Chain (now (a .text)) nameForm [] (a .prior) (valueOf (n1 .number-after .result) ∷ valueOf (n2 .number-after2 .result) ∷ valueOf (n3 .number-after3 .result) ∷ valueOf (n4 .number-after4 .result) ∷ valueOf (c .before .number-after5 .result) ∷ []) (c .end-after .result)
 steps c =
     let n5 = c .before in
     let w5 = n5 .before in
@@ -28,9 +33,10 @@ steps c =
     let v1 = u1 .before in
     let w2 = v1 .before in
     let n1 = w2 .before .before in
-    let w1 = n1 .before in
-    name-steps _ _ _ _ _ _ _ _ _ _ _ _ _ _ _ _ _ _ (w1 .word-after .ensures) (n1 .number-after .ensures) (w2 .word-after2 .ensures) (v1 .value-of .ensures) (u1 .upper .ensures) (n2 .number-after2 .ensures)
-    (w3 .word-after3 .ensures) (v2 .value-of2 .ensures) (p .positive .ensures) (u2 .upper2 .ensures) (n3 .number-after3 .ensures) (w4 .word-after4 .ensures) (n4 .number-after4 .ensures) (w5 .word-after5 .ensures) (n5 .number-after5 .ensures) (c .end-after .ensures)
+    by-word (n1 .before .word-after .ensures) (by-number (n1 .number-after .ensures) (by-word (w2 .word-after2 .ensures)
+    (by-number (rw (u1 .upper .ensures, v1 .value-of .ensures) at (n2 .number-after2 .ensures)) (by-word (w3 .word-after3 .ensures)
+    (by-number (rw (p .positive .ensures, u2 .upper2 .ensures, v2 .value-of2 .ensures) at (n3 .number-after3 .ensures)) (by-word (w4 .word-after4 .ensures)
+    (by-number (n4 .number-after4 .ensures) (by-word (w5 .word-after5 .ensures) (by-number (n5 .number-after5 .ensures) (by-end (c .end-after .ensures)))))))))))
 
 slice-aggregate-word-after : tie.Need-slice-aggregate-word-after
 slice-aggregate-word-after c = search needs
@@ -127,10 +133,11 @@ refusal-requires : tie.Need-refusal-requires
 refusal-requires c κs = search needs
 
 returns : tie.Need-returns
-returns c = name-found (steps (c .before .before .before .before .before)) _ _ _ _ _ (c .before .before .before .enum-told .given .1) (c .before .before .value-of3 .ensures) (c .before .value-of4 .ensures) (c .value-of5 .ensures)
+returns c =
+    rw (c .before .before .value-of3 .ensures, c .before .value-of4 .ensures, c .value-of5 .ensures) (answer-found _ _ objectOf (steps (c .before .before .before .before .before)) (c .before .before .before .enum-told .given .1))
 
 returns-2 : tie.Need-returns-2
-returns-2 c = name-stopped (steps (c .before .before .before)) _ _ (c .before .enum-told2 .given .1) (c .refusal .ensures)
+returns-2 c = answer-stopped _ _ objectOf (steps (c .before .before .before)) (c .before .enum-told2 .given .1) (c .refusal .ensures)
 
 pub read-spec : {M : Type 1} → statement M
 read-spec =
