@@ -1,4 +1,5 @@
--- What the reading steps of src/scan.rt answer, each over the step before it. Assumes nothing.
+-- Inner: what the reading steps of src/scan.rt answer, each over the step before it. It serves the contracts of inner functions alone.
+-- Assumes nothing.
 use Prim.Native.Nat.{ℕ}
 use mathlib.Core.List.{List}
 use lib.ListN.{drop}

@@ -17,10 +17,10 @@ pub cut : (bs : List ℕ) (n m i j : ℕ) → i + n ≡ j → take (n + m) (drop
 cut bs n m i j e = take-add n m (drop i bs) ∙ rw (drop-drop n i bs, e)
 
 module _ {A : Type 0} (e : A → List ℕ) (w : ℕ) (sized : (x : A) → length (e x) ≡ w) where
-  pub length-written : (xs : List A) → length (flatMap e xs) ≡ length xs * w
+  pub length-encoded : (xs : List A) → length (flatMap e xs) ≡ length xs * w
   unfolding flatMap
-  length-written [] = sym (zero-mul w)
-  length-written (x ∷ xs) = rw (length-append, sized x, length-written xs, suc-mul) (omega arith)
+  length-encoded [] = sym (zero-mul w)
+  length-encoded (x ∷ xs) = rw (length-append, sized x, length-encoded xs, suc-mul) (omega arith)
 
 module _ {A : Type 0} (d : List ℕ → ℕ → A) (w : ℕ) where
   -- ---- element by element

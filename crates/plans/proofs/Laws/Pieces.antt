@@ -9,7 +9,7 @@ use lib.ListN.{length, length-append}
 use Rattle.codec.specs.All.{All}
 use Rattle.codec.specs.Fixed.{bigEndian}
 use Rattle.codec.proofs.Laws.Fixed.{length-bigEndian, numberAt-behind, field-back}
-use Rattle.codec.proofs.Laws.Groups.{length-written, groups-back}
+use Rattle.codec.proofs.Laws.Groups.{length-encoded, groups-back}
 use Rattle.runs.specs.Runs.{Run}
 use Rattle.plans.specs.Piece.{pieceSize, pieceOf, encodePiece, encodeRun, encodePieces, decodePiece, locationOf, runOf, decodeRun, piecesIn, PieceFits, RunFits}
 use Rattle.plans.specs.Inner.{encodeObject}
@@ -36,7 +36,7 @@ length-encodeRun r = length-encodePiece (pieceOf (r .start) (r .len) (r .first))
 
 pub length-encodePieces : (rs : List (Run Location)) → length (encodePieces rs) ≡ length rs * pieceSize
 unfolding encodePieces
-length-encodePieces rs = length-written encodeRun pieceSize length-encodeRun rs
+length-encodePieces rs = length-encoded encodeRun pieceSize length-encodeRun rs
 
 -- ---- one piece
 

@@ -11,7 +11,7 @@ use Rattle.codec.specs.All.{All, Bytes}
 use Rattle.codec.specs.Fixed.{bigEndian}
 use Rattle.codec.specs.Groups.{groups}
 use Rattle.codec.proofs.Laws.Fixed.{length-bigEndian, numberAt-behind, numberAt-bound, field-back, number-forth}
-use Rattle.codec.proofs.Laws.Groups.{cut, length-written, length-groups, groups-more, groups-all, groups-at, groups-forth, groups-back}
+use Rattle.codec.proofs.Laws.Groups.{cut, length-encoded, length-groups, groups-more, groups-all, groups-at, groups-forth, groups-back}
 use Rattle.slices.specs.Limits.{recordSize}
 use Rattle.slices.specs.Record.{encode, encodeAll, decode, recordAt, recordsFrom, count, records, Fits}
 use Rattle.slices.specs.declared.Record.{Record}
@@ -22,7 +22,7 @@ length-encode r = simp (length-append, length-bigEndian)
 
 pub length-encodeAll : (rs : List Record) → length (encodeAll rs) ≡ length rs * recordSize
 unfolding encodeAll
-length-encodeAll rs = length-written encode recordSize length-encode rs
+length-encodeAll rs = length-encoded encode recordSize length-encode rs
 
 -- ---- one record
 

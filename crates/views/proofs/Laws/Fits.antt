@@ -1,5 +1,5 @@
 -- The records of a view are records of 24 bytes, and so are those of a tidied list. Assumes nothing.
-use Prim.Native.Nat.{ℕ, _+_, _≤_, _<_, _^_}
+use Prim.Native.Nat.{ℕ, _+_, _≤_}
 use native.Mathlib.Omega.{arith}
 use native.Mathlib.Nat.{le-refl}
 use mathlib.Core.Bool.{Bool, true, false, cond}

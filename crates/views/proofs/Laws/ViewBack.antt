@@ -1,5 +1,5 @@
 -- The bytes of a view are read back as the view, and what `view` wrote gives each position its source. Assumes nothing.
-use Prim.Native.Nat.{ℕ, zero, _<_, _≤_}
+use Prim.Native.Nat.{ℕ, _<_, _≤_}
 use mathlib.Core.Path.{_≡_, refl, ap, _∙_}
 use mathlib.Core.Bool.{false}
 use mathlib.Core.List.{List, []}
