@@ -1,4 +1,4 @@
--- Setting one byte of a store: it is read back, every other byte stays, and two bytes of one slice never share a place. Assumes nothing.
+-- Setting one byte of a store: it is read back, every other byte stays, and two bytes of one slice never share a location. Assumes nothing.
 use Prim.Native.Nat.{ℕ, _+_, _*_, _/_, _%_}
 use native.Mathlib.Omega.{arith}
 use native.Mathlib.Nat.{div-add-mod'}
@@ -26,7 +26,7 @@ put-same : (i b l a v : ℕ) (st : Store) → fetch (put (In i b l a) v st) (In 
 unfolding fetch put
 put-same i b l a v st = rw (eq-eqb i i refl, eq-eqb b b refl, eq-eqb l l refl, eq-eqb a a refl)
 
--- the byte set is read at the place of slice offset o
+-- the byte set is read at the location of slice offset o
 pub put-at : (B id size o v : ℕ) (st : Store) → fetch (put (location B (Byte id size o)) v st) (location B (Byte id size o)) ≡ v
 unfolding location
 put-at B id size o v st = put-same id (o / B) (blockLength B size (o / B)) (o % B) v st
@@ -41,7 +41,7 @@ put-other (In i b l a) (In j c m t) v st ne = go (eqb j i && (eqb c b && (eqb m 
     go true e = absurd (ne (same-location i b l a j c m t e))
     go false e = refl
 
--- two offsets of a slice lie in two places
+-- two offsets of a slice lie at two locations
 pub location-inj : (B id size o u : ℕ) → location B (Byte id size o) ≡ location B (Byte id size u) → o ≡ u
 unfolding location
 location-inj B id size o u e = cc (div-add-mod' o B, div-add-mod' u B)

@@ -1,4 +1,4 @@
--- Where bytes are read, and how far places go on. Assumes nothing.
+-- Where bytes lie, and how far locations go on. Assumes nothing.
 use Prim.Native.Nat.{ℕ, suc, _+_, _-_, _*_, _/_, _%_, _≤_, _<_, min}
 use native.Mathlib.Omega.{arith}
 use native.Mathlib.Nat.{add-zero, div-add-mod'}
@@ -60,7 +60,7 @@ module _ (B i z o : ℕ) where
       let e : min B (z - o / B * B) ≡ B = omega arith in
       rw e
 
-  -- in one block, the places of a slice's bytes follow one another
+  -- in one block, the locations of a slice's bytes follow one another
   pub block-byte : (d r : ℕ) → 0 < r → r ≤ d → r ≤ B - o % B → InBlock B (Byte i z o) d r
   unfolding location onward shift
   block-byte d r h l m = record { some = h; most = l; onwards = go }
@@ -83,12 +83,12 @@ real-inside (Byte i s o) h = h .2
 pub cover-inside : (rs : List Record) → All Passes rs → (p : ℕ) → Inside (cover rs p)
 cover-inside rs h p = real-inside (cover rs p) (cover-real rs h p)
 
--- the place of the cover's source
+-- the location of the cover's source
 pub location-is : (B : ℕ) (rs : List Record) (p : ℕ) {s : Source} {a : Location} → s ≡ cover rs p → a ≡ location B s → a ≡ locationAt B rs p
 unfolding locationAt
 location-is B rs p h k = k ∙ ap (location B) h
 
--- ---- the places inside a run
+-- ---- the locations inside a run
 
 pub onward-zero : (a : Location) → a ≡ onward a 0
 unfolding onward
@@ -121,7 +121,7 @@ unfolding nextLocation onward
 next-hole Hole k = refl
 next-hole (In i b l a) k = refl
 
--- where the cover goes on, the places do up to the end of the block
+-- where the cover goes on, the locations do up to the end of the block
 pub locations-on : (B : ℕ) (rs : List Record) (p end e r : ℕ) (s : Source) → Unbroken next (cover rs) p end e → s ≡ cover rs p → InBlock B s (e - p) r
     → Unbroken nextLocation (locationAt B rs) p end (p + r)
 unfolding locationAt

@@ -1,4 +1,4 @@
--- `plans::locations::follows` meets its contract: only a place in an object is followed by one. Assumes nothing.
+-- `plans::locations::follows` meets its contract: only a location in an object is followed by one. Assumes nothing.
 use Prim.Native.Nat.{_+_, _-_}
 use native.Mathlib.Omega.{arith}
 use mathlib.Core.Path.{_≡_}

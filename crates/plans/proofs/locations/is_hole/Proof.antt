@@ -1,4 +1,4 @@
--- `plans::locations::is_hole` meets its contract: each arm knows the place. Assumes nothing.
+-- `plans::locations::is_hole` meets its contract: each arm knows the location. Assumes nothing.
 use Rattle.plans.specs.Location.{nextLocation}
 use borrow.Author.Needs.{needs}
 use Rattle.plans.proofs.locations.is_hole.Statement.{statement}

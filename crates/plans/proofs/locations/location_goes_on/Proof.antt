@@ -1,4 +1,4 @@
--- `plans::locations::location_goes_on` meets its contract: in each arm the place is known. Assumes nothing.
+-- `plans::locations::location_goes_on` meets its contract: in each arm the location is known. Assumes nothing.
 use mathlib.Core.Path.{sym, _∙_}
 use Rattle.plans.proofs.Laws.Locations.{next-hole}
 use borrow.Author.Needs.{needs}

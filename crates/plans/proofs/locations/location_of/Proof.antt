@@ -1,4 +1,4 @@
--- `plans::locations::location_of` meets its contract: the tests that led to a `return` say which place it is. Assumes nothing.
+-- `plans::locations::location_of` meets its contract: the tests that led to a `return` say which location it is. Assumes nothing.
 use native.Mathlib.Nat.{div-mul-le-self}
 use native.Mathlib.Omega.{arith}
 use mathlib.Core.Path.{sym}

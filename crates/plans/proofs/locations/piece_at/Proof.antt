@@ -1,4 +1,4 @@
--- `plans::locations::piece_at` meets its contract. The invariant: from p up to e the places go on.
+-- `plans::locations::piece_at` meets its contract. The invariant: from p up to e the locations go on.
 -- Assumes nothing.
 use Prim.Native.Nat.{_-_}
 use native.Mathlib.Omega.{arith}

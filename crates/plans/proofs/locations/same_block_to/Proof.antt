@@ -1,4 +1,4 @@
--- `plans::locations::same_block_to` meets its contract: where the cover goes on, the places do up to the end of the block. Assumes nothing.
+-- `plans::locations::same_block_to` meets its contract: where the cover goes on, the locations do up to the end of the block. Assumes nothing.
 use Rattle.plans.proofs.Laws.Locations.{locations-on}
 use borrow.Author.Needs.{needs}
 use Rattle.plans.proofs.locations.same_block_to.Statement.{statement}

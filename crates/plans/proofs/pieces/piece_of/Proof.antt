@@ -1,4 +1,4 @@
--- `plans::pieces::piece_of` meets its contract: in each arm the place is known. Assumes nothing.
+-- `plans::pieces::piece_of` meets its contract: in each arm the location is known. Assumes nothing.
 use Rattle.plans.specs.Piece.{pieceOf}
 use borrow.Author.Needs.{needs}
 use Rattle.plans.proofs.pieces.piece_of.Statement.{statement}
