@@ -26,9 +26,10 @@ pub record DecimalRead (least most i : ℕ) (text : List ℕ) (j n : ℕ) : Type
 -- ---- the scan
 
 -- The list is what the text has from place i on. `Next` has the place after the number, and the number. `Stop` has the place at which the
--- scan gives up: that of a digit that would bring the number above `most`, that follows a zero, or that is a zero in front where `least` is
--- above 0; or that of the first byte that is no digit, or of the text's end, where there is no digit before it or the number is below
--- `least`. So it is not the end of the longest beginning that an allowed number has: from 1,234,000 to 1,234,999, `1235` stops at its end.
+-- scan gives up: that of a digit that would bring the number above `most`, of a digit behind a zero in front, or of a zero in front where
+-- `least` is above 0; else that of the first byte that is no digit, or the text's end, where no digit stands before it or the number is
+-- below `least`. It is not the end of the longest beginning that an allowed number has: from 1,234,000 to 1,234,999, the text `1235` stops
+-- at its end, although no allowed number begins so.
 
 -- a number of which v is read already: a zero takes no further digit
 unfoldable pub moreDigits : ℕ → ℕ → ℕ → ℕ → List ℕ → Step

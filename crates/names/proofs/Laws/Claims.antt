@@ -3,7 +3,7 @@ use mathlib.Core.Path.{ap}
 use Rattle.names.specs.Names.{volumePart}
 use Rattle.names.specs.Claims.{NamesInverse}
 use Rattle.names.proofs.Laws.Names.{object-name, quotients-agree}
-use Rattle.names.proofs.Laws.Full.{full-name, full-not-short, volume-back, volume-front}
+use Rattle.names.proofs.Laws.Full.{full-name, full-not-short, full-quotients-agree, volume-back, volume-front}
 
 pub names-inverse : NamesInverse
 unfolding volumePart
@@ -13,6 +13,7 @@ names-inverse =
       full = full-name;
       notBoth = full-not-short;
       quotients = quotients-agree;
+      fullQuotients = full-quotients-agree;
       volume = volume-back;
       part = volume-front;
       empty = λ t r e. ap volumePart e;

@@ -20,16 +20,16 @@ use Rattle.names.specs.Limits.{maxVolume}
 use Rattle.texts.specs.Words.{slash, underscore}
 use Rattle.texts.specs.Parts.{write, allows, Scan, onward, scan}
 use Rattle.texts.specs.Inner.{wordAfter}
-use Rattle.names.specs.Volume.{volumeAllowed, volumeRun, volumeAt}
+use Rattle.names.specs.Volume.{volumeAllowed, volumeBytes, volumeRun, volumeAt}
 use Rattle.texts.specs.Calls.{reading, WriterRefuses}
 use Rattle.texts.specs.Inverse.{Inverse, Any}
-use Rattle.names.specs.Names.{Object, object, Full, full, objectAllowed, objectName, nameForm, objectOf, readObject, objectAnswer, fullAllowed, fullName, fullForm, fullScan, inVolume, readFull, fullAnswer, volumePart, writeFull}
+use Rattle.names.specs.Names.{Object, object, Full, full, objectAllowed, shaped, objectName, nameForm, objectOf, readObject, objectAnswer, fullAllowed, fullName, fullForm, fullScan, inVolume, readFull, fullAnswer, volumePart, writeFull}
 use Rattle.names.specs.declared.ObjectName.the-variants.{Block, Refused}
 use Rattle.texts.proofs.Laws.Parts.{apart}
 use Rattle.texts.proofs.Laws.Steps.{on-word}
 use Rattle.texts.proofs.Laws.Shows.{Shows, shows-back, shows-forth}
 use Rattle.names.proofs.Laws.Volume.{right, run-writes, run-reads}
-use Rattle.names.proofs.Laws.Names.{shown, name-text, name-shows}
+use Rattle.names.proofs.Laws.Names.{shown, name-text, name-shows, object-name, quotients-of}
 use Rattle.texts.proofs.Laws.Calls.{writer-refuses, reading-only}
 use Rattle.texts.proofs.Laws.Inverse as inverse
 use Rattle.outcomes.specs.Answers.{answerOf}
@@ -140,24 +140,34 @@ volume-front t = go (reading objectOf (fullScan t))
     go (refused x) = refl
     go (done o) = rw (run-reads t .1)
 
--- no text is both a full name and a short one
+-- a text shows by itself where its volume name ends
+full-split : (volume rest : List ℕ) → volumeAllowed volume ≡ true → (f : Full) → allowed f ≡ true → volume ++ (slash ++ rest) ≡ text f → rest ≡ objectName (f .object .id) (f .object .block) (f .object .length)
+unfolding fullName
+full-split volume rest v f a e =
+    let name = objectName (f .object .id) (f .object .block) (f .object .length) in
+    let n : length volume ≡ length (f .volume) = sym (run-writes volume rest (right volume v .bytes)) ∙ ap volumeRun e ∙ run-writes (f .volume) name (right (f .volume) (parts-allowed f a .0) .bytes) in
+    let d : slash ++ rest ≡ slash ++ name =
+    sym (drop-append-seam volume (slash ++ rest)) ∙ ap (drop (length volume)) e ∙ ap (λ (k : ℕ). drop k (text f)) n ∙ drop-append-seam (f .volume) (slash ++ name) in
+    cc
+
+-- in an accepted full name, too, the two quotients are those of the id
+pub full-quotients-agree : (volume : List ℕ) (a b id block len : ℕ) (f : Full) → volumeAllowed volume ≡ true → readFull (volume ++ (slash ++ shaped a b id block len)) ≡ done f
+    → (a ≡ id / 1000 / 1000) × (b ≡ id / 1000)
+full-quotients-agree volume a b id block len f v r =
+    let w = full-forth _ f r in
+    quotients-of a b id block len (f .object) (full-split volume (shaped a b id block len) v f (w .1) (w .0))
+
+-- no text is both a full name and a short one: `chunks` would be the volume name, and a digit the first byte of the short name behind it
 pub full-not-short : (t : List ℕ) (f : Full) (o : Object) → readFull t ≡ done f → readObject t ≡ done o → ⊥
-unfolding readObject fullName objectName volumeRun digitOf
+unfolding objectName digitOf volumeAllowed volumeBytes
 full-not-short t f o r q =
-    let a = full-forth t f r in
-    let b = shows-forth name-shows t 0 o q in
-    let s : t ≡ objectName (o .id) (o .block) (o .length) = b .0 ∙ sym (name-text o) in
-    let v = right (f .volume) (parts-allowed f (a .1) .0) in
-    let n : volumeRun t ≡ length (f .volume) = ap volumeRun (a .0) ∙ run-writes (f .volume) (objectName (f .object .id) (f .object .block) (f .object .length)) (v .bytes) in
-    let six : volumeRun t ≡ 6 = ap volumeRun s in
-    let d : drop 6 t ≡ slash ++ objectName (f .object .id) (f .object .block) (f .object .length) =
-    ap (λ (k : ℕ). drop k t) (sym six ∙ n) ∙ ap (drop (length (f .volume))) (a .0) ∙ drop-append-seam (f .volume) _ in
+    let w = full-forth t f r in
     let n = spelled (o .id / 1000 / 1000) in
     let rest : List ℕ = slash ++ (decimal (o .id / 1000) ++ (slash ++ (decimal (o .id) ++ (underscore ++ (decimal (o .block) ++ (underscore ++ decimal (o .length))))))) in
-    let e : drop 6 t ≡ slash ++ (n .first ∷ (n .others ++ rest)) = ap (drop 6) s ∙ ap (λ (l : List ℕ). slash ++ (l ++ rest)) (n .is) in
+    let e = full-split (99 ∷ 104 ∷ 117 ∷ 110 ∷ 107 ∷ 115 ∷ []) (decimal (o .id / 1000 / 1000) ++ rest) refl f (w .1) (sym (object-name .forth t tt o q .0) ∙ w .0) in
+    let d : n .first ∷ (n .others ++ rest) ≡ objectName (f .object .id) (f .object .block) (f .object .length) = ap (λ (l : List ℕ). l ++ rest) (sym (n .is)) ∙ e in
     let z : n .first ≡ 99 = cc in
-    let w : digitOf (n .first) ≡ 10 = ap digitOf z in
-    omega (arith, n .digit)
+    omega (arith, n .digit, ap digitOf z)
 
 -- ---- the calls
 

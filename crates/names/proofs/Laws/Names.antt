@@ -18,7 +18,7 @@ use Rattle.texts.specs.Parts.{Part, word, within, write, allows}
 use Rattle.texts.specs.Inverse.{Inverse, Any}
 use Rattle.names.specs.Names.{Object, object, objectAllowed, shaped, objectName, nameForm, objectOf, readObject, writeObject}
 use Rattle.texts.proofs.Laws.Parts.{apart, ends, Allowed, allowed, allowing, distinct}
-use Rattle.texts.proofs.Laws.Shows.{Shows, shows-forth, shows-inverse}
+use Rattle.texts.proofs.Laws.Shows.{Shows, shows-inverse}
 use Rattle.texts.specs.Calls.{WriterRefuses}
 use Rattle.texts.proofs.Laws.Calls.{writer-refuses}
 use Rattle.texts.proofs.Laws.Inverse as inverse
@@ -132,11 +132,14 @@ shaped-distinct a b id block len a′ b′ id′ block′ len′ e =
     distinct (loose most) (loose-apart most) _ _ (loose-allows most a b id block len (omega arith)) (loose-allows most a′ b′ id′ block′ len′ (omega arith))
     (sym (loose-text most a b id block len) ∙ e ∙ loose-text most a′ b′ id′ block′ len′)
 
--- in an accepted name the two quotients are those of the id
-pub quotients-agree : (a b id block len : ℕ) (o : Object) → readObject (shaped a b id block len) ≡ done o → (a ≡ id / 1000 / 1000) × (b ≡ id / 1000)
-unfolding readObject objectName
-quotients-agree a b id block len o r =
-    let f = shows-forth name-shows (shaped a b id block len) 0 o r in
-    let e = shaped-distinct a b id block len (o .id / 1000 / 1000) (o .id / 1000) (o .id) (o .block) (o .length) (f .0 ∙ sym (name-text o)) in
+-- numbers in the shape of a name that are an object's name: the two quotients are those of the id
+pub quotients-of : (a b id block len : ℕ) (o : Object) → shaped a b id block len ≡ objectName (o .id) (o .block) (o .length) → (a ≡ id / 1000 / 1000) × (b ≡ id / 1000)
+unfolding objectName
+quotients-of a b id block len o p =
+    let e = shaped-distinct a b id block len (o .id / 1000 / 1000) (o .id / 1000) (o .id) (o .block) (o .length) p in
     let i : id ≡ o .id = cc in
     rw i (cc, cc)
+
+-- in an accepted name the two quotients are those of the id
+pub quotients-agree : (a b id block len : ℕ) (o : Object) → readObject (shaped a b id block len) ≡ done o → (a ≡ id / 1000 / 1000) × (b ≡ id / 1000)
+quotients-agree a b id block len o r = quotients-of a b id block len o (object-name .forth (shaped a b id block len) tt o r .0)
