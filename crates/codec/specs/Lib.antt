@@ -5,3 +5,4 @@ pub mod Groups
 pub mod Little
 pub mod Decimal
 pub mod Scan
+pub mod Inner

@@ -2,3 +2,4 @@ pub mod Limits
 pub mod Words
 pub mod Keys
 pub mod Claims
+pub mod Inner

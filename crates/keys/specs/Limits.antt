@@ -1,6 +1,5 @@
 -- The limits of paper 01 on chunk keys ("Blocks, names, keys"), each in this one place. Assumes nothing.
-use Prim.Native.Nat.{ℕ, _+_, _-_, _*_, _^_}
-use Rattle.codec.specs.Decimal.{maxDigits}
+use Prim.Native.Nat.{ℕ, _-_, _^_}
 
 -- "index any 32-bit number"
 abbrev pub maxIndex : ℕ
@@ -9,7 +8,3 @@ maxIndex = 2 ^ 32 - 1
 -- a TKV key has "14 bytes"
 abbrev pub tkvSize : ℕ
 tkvSize = 14
-
--- inner: the room that a Redis key takes at most: two words of one byte, two numbers
-abbrev pub redisRoom : ℕ
-redisRoom = 2 + 2 * maxDigits

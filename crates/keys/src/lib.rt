@@ -13,9 +13,11 @@ use texts::text;
 ghost use mathlib.Core.Path.{_≡_};
 ghost use Prim.Native.Nat.{_+_, _≤_};
 ghost use lib.ListN.{length};
-ghost use Rattle.codec.specs.Splice.{splice, Puts};
+ghost use Rattle.codec.specs.Splice.{splice};
+ghost use Rattle.codec.specs.Inner.{Puts};
 ghost use Rattle.outcomes.specs.Answers.{Answers};
-ghost use Rattle.keys.specs.Limits.{redisRoom, tkvSize};
+ghost use Rattle.keys.specs.Limits.{tkvSize};
+ghost use Rattle.keys.specs.Inner.{redisRoom};
 ghost use Rattle.keys.specs.Keys.{redisKey, readRedis, writeRedis, tkvKey, tkvShape, readTkv, writeTkv, chunkAnswer};
 
 // What a chunk key names: a chunk of a file, or the refusal.

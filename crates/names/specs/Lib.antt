@@ -3,3 +3,4 @@ pub mod Words
 pub mod Volume
 pub mod Names
 pub mod Claims
+pub mod Inner

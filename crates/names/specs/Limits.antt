@@ -1,6 +1,5 @@
 -- The limits of paper 01 on object names ("Blocks, names, keys"), each in this one place. Assumes nothing.
-use Prim.Native.Nat.{ℕ, _+_, _*_}
-use Rattle.codec.specs.Decimal.{maxDigits}
+use Prim.Native.Nat.{ℕ}
 
 -- "block 0 to 1,023"
 abbrev pub maxBlock : ℕ
@@ -13,7 +12,3 @@ maxLength = 16777216
 -- a volume name has "1 to 63 bytes"
 abbrev pub maxVolume : ℕ
 maxVolume = 63
-
--- inner: the room that an object name takes at most: `chunks/` and four words of one byte, five numbers
-abbrev pub nameRoom : ℕ
-nameRoom = 11 + 5 * maxDigits

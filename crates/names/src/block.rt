@@ -10,9 +10,9 @@ ghost use mathlib.Core.Path.{_≡_};
 ghost use mathlib.Core.List.{[]};
 ghost use Prim.Native.Nat.{_+_, _*_, _≤_, min, max};
 ghost use lib.ListN.{length};
-ghost use Rattle.codec.specs.Splice.{Puts};
+ghost use Rattle.codec.specs.Inner.{Puts};
 ghost use Rattle.texts.specs.Parts.{onward, scan};
-ghost use Rattle.names.specs.Limits.{nameRoom};
+ghost use Rattle.names.specs.Inner.{nameRoom};
 ghost use Rattle.texts.specs.Calls.{reading};
 ghost use Rattle.names.specs.Names.{nameForm, objectOf, objectAnswer, objectAllowed, objectName};
 

@@ -11,9 +11,9 @@ use texts::text;
 ghost use mathlib.Core.Path.{_≡_};
 ghost use Prim.Native.Nat.{_+_, _≤_};
 ghost use lib.ListN.{length};
-ghost use Rattle.codec.specs.Splice.{Puts};
+ghost use Rattle.codec.specs.Inner.{Puts};
 ghost use Rattle.outcomes.specs.Answers.{Answers};
-ghost use Rattle.names.specs.Limits.{nameRoom};
+ghost use Rattle.names.specs.Inner.{nameRoom};
 ghost use Rattle.names.specs.Names.{readObject, objectAnswer, writeObject, readFull, fullAnswer, volumePart, writeFull, fullName};
 
 // What an object name names: a block of a slice, or the refusal.

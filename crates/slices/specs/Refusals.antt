@@ -1,4 +1,4 @@
--- When a list is refused: the rows 1 to 6 of paper 01's table, in its order. Assumes nothing.
+-- When a list is refused: the rows 1 to 6 of paper 01's table, in its order; and when a chunk length is, 7. Assumes nothing.
 use Prim.Native.Nat.{ℕ, suc, _+_, _%_}
 use mathlib.Core.Bool.{Bool, _&&_, _||_, not}
 use mathlib.Core.List.{List, [], _∷_}

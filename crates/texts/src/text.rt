@@ -5,7 +5,7 @@ ghost use mathlib.Core.List.{_++_};
 ghost use Prim.Native.Nat.{_+_, _≤_};
 ghost use lib.ListN.{length};
 ghost use Rattle.codec.specs.Decimal.{maxDigits, decimal};
-ghost use Rattle.codec.specs.Splice.{Puts};
+ghost use Rattle.codec.specs.Inner.{Puts};
 
 // Puts a word into a line.
 pub fn put_word(line: &mut [u8], at: usize, word: &[u8]) -> usize

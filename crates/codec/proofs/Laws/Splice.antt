@@ -7,7 +7,8 @@ use mathlib.Core.Path.{_≡_, sym, ap, _∙_}
 use mathlib.Core.List.{List, [], _∷_, _++_, append-assoc, append-nil}
 use lib.ListN.{length, getD, take, drop, set, length-append, length-take, length-drop, take-append-drop, drop-of-length-le}
 use lib.Seq.{set-split, take-at, drop-at, take-suc, length-take-le, drop-append-add, drop-drop}
-use Rattle.codec.specs.Splice.{splice, Puts}
+use Rattle.codec.specs.Splice.{splice}
+use Rattle.codec.specs.Inner.{Puts}
 
 pub splice-nil : (out : List ℕ) (at : ℕ) → splice out at [] ≡ out
 unfolding splice

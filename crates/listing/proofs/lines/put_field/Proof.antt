@@ -4,7 +4,7 @@ use mathlib.Core.Path.{refl}
 use mathlib.Core.List.{[], _∷_}
 use denote.Ref.{now}
 use Rattle.codec.specs.Decimal.{decimal}
-use Rattle.codec.specs.Splice.{Puts}
+use Rattle.codec.specs.Inner.{Puts}
 use Rattle.listing.specs.Listing.{field}
 use Rattle.codec.proofs.Laws.Splice.{puts-then, splice-one}
 use borrow.Author.Needs.{needs}

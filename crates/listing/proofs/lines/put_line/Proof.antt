@@ -4,7 +4,7 @@ use mathlib.Core.List.{_++_, append-assoc}
 use denote.Ref.{now}
 use Rattle.listing.specs.Listing.{field, line, space, newline}
 use Rattle.listing.specs.Calls.{lineRoom}
-use Rattle.codec.specs.Splice.{Puts}
+use Rattle.codec.specs.Inner.{Puts}
 use Rattle.codec.proofs.Laws.Splice.{puts-then, puts-as}
 use borrow.Author.Needs.{needs}
 use Rattle.listing.proofs.lines.put_line.Statement.{statement}

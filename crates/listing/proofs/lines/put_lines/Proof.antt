@@ -8,7 +8,7 @@ use mathlib.Core.List.{flatMap}
 use lib.ListN.{length}
 use denote.Ref.{now}
 use Rattle.codec.specs.Groups.{groupsFrom}
-use Rattle.codec.specs.Splice.{Puts}
+use Rattle.codec.specs.Inner.{Puts}
 use Rattle.slices.specs.Limits.{recordSize}
 use Rattle.slices.specs.Record.{recordAt, recordsFrom, records, count}
 use Rattle.listing.specs.Listing.{line, lines}

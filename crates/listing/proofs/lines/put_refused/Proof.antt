@@ -8,7 +8,7 @@ use denote.Ref.{now}
 use Rattle.codec.specs.Decimal.{decimal}
 use Rattle.listing.specs.Listing.{field, refusedLine, refusedWord, atWord, newline}
 use Rattle.listing.specs.Calls.{lineRoom}
-use Rattle.codec.specs.Splice.{Puts}
+use Rattle.codec.specs.Inner.{Puts}
 use Rattle.codec.proofs.Laws.Splice.{puts-then, puts-as}
 use borrow.Author.Needs.{needs}
 use Rattle.listing.proofs.lines.put_refused.Statement.{statement}

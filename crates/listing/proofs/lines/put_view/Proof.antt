@@ -5,7 +5,7 @@ use mathlib.Core.Path.{_∙_}
 use lib.ListN.{length}
 use denote.Ref.{now}
 use Rattle.slices.specs.Record.{records}
-use Rattle.codec.specs.Splice.{Puts}
+use Rattle.codec.specs.Inner.{Puts}
 use Rattle.codec.proofs.Laws.Splice.{puts-then}
 use Rattle.listing.specs.Listing.{header, lines}
 use borrow.Author.Needs.{needs}
