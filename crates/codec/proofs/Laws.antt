@@ -1,4 +1,5 @@
 -- Laws of the definitions of specs/.
+pub mod Bools
 pub mod All
 pub mod Splice
 pub mod Fixed

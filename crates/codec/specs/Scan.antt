@@ -10,7 +10,7 @@ use Rattle.codec.specs.Decimal.{decimal, digitOf}
 use Rattle.codec.specs.declared.scan.Step.{Step}
 use Rattle.codec.specs.declared.scan.Step.the-variants.{Next, Stop}
 
--- Inner, of `digit_at`'s contract and the record below: what the first byte of a text stands for as a digit, and 10 where there is none.
+-- what the first byte of a text stands for as a digit, and 10 where there is none
 unfoldable pub digitAt : List ℕ → ℕ
 digitAt [] = 10
 digitAt (b ∷ rest) = digitOf b

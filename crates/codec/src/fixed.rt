@@ -1,6 +1,6 @@
 // Numbers of a fixed width, the highest byte first.
 ghost use mathlib.Core.Path.{_≡_};
-ghost use Prim.Native.Nat.{_+_, _*_, _^_, _≤_, _<_};
+ghost use Prim.Native.Nat.{_+_, _*_, _≤_};
 ghost use lib.ListN.{length};
 ghost use Rattle.codec.specs.Fixed.{bigEndian, numberAt};
 ghost use Rattle.codec.specs.Splice.{splice};

@@ -41,8 +41,8 @@ abbrev pub roomRows : Both → (planRoom listRoom : ℕ) → List Row
 roomRows b planRoom listRoom = tooShort (b .plan) planRoom ∷ tooShort (b .list) listRoom ∷ []
 
 -- both, delivered into buffers of these lengths
-abbrev pub delivered : Both → (planRoom listRoom : ℕ) → Outcome Both
-delivered b planRoom listRoom = firstOf (roomRows b planRoom listRoom) (done b)
+abbrev pub deliveredBoth : Both → (planRoom listRoom : ℕ) → Outcome Both
+deliveredBoth b planRoom listRoom = firstOf (roomRows b planRoom listRoom) (done b)
 
 -- ---- the call
 
@@ -66,8 +66,8 @@ compactOutcome bs B k id planRoom listRoom = firstOf (compactRows bs B k id plan
 abbrev pub howManyOfEach : Both → Compacted
 howManyOfEach b = Wrote (length (b .plan)) (length (b .list))
 
-abbrev pub answer : Outcome Both → Compacted
-answer o = answerOf Refused howManyOfEach o
+abbrev pub compactAnswer : Outcome Both → Compacted
+compactAnswer o = answerOf Refused howManyOfEach o
 
 -- a call with the outcome o, lent the buffers `plan` and `list`, answers a and leaves `plan'` and `list'`
 abbrev pub Compacts : Outcome Both → (plan list : List ℕ) → Compacted → (plan' list' : List ℕ) → Type 0

@@ -16,7 +16,7 @@ ghost use lib.ListN.{length};
 ghost use Rattle.outcomes.specs.Outcome.{done, firstOf};
 ghost use Rattle.slices.specs.Accepts.{Accepts};
 ghost use Rattle.slices.specs.Record.{count, records};
-ghost use Rattle.compaction.specs.Calls.{both, delivered, laterRows, compactOutcome, Compacts};
+ghost use Rattle.compaction.specs.Calls.{both, deliveredBoth, laterRows, compactOutcome, Compacts};
 
 // What the call answers: the numbers of bytes of the plan and of the new list, or the refusal.
 pub enum Compacted {
@@ -42,7 +42,7 @@ fn compact_first(
     requires { ⌜ Accepts (now list) ⌝ }
     requires { ⌜ 0 < block ⌝ }
     requires { ⌜ k ≤ count (now list) ⌝ }
-    ensures { λ r. ⌜ Compacts (delivered (both block (records (now (list .entry))) k «new_id») (length (now (plan .entry))) (length (now («new_list» .entry)))) (now (plan .entry)) (now («new_list» .entry)) r (now (plan .exit)) (now («new_list» .exit)) ⌝ }
+    ensures { λ r. ⌜ Compacts (deliveredBoth (both block (records (now (list .entry))) k «new_id») (length (now (plan .entry))) (length (now («new_list» .entry)))) (now (plan .entry)) (now («new_list» .entry)) r (now (plan .exit)) (now («new_list» .exit)) ⌝ }
 {
     let cut = k * RECORD;
     let firsts = &list[..cut];

@@ -6,7 +6,7 @@ use Rattle.outcomes.specs.Outcome.{Outcome, refused, done}
 use Rattle.outcomes.specs.Answers.{answer, answerOf}
 use Rattle.slices.specs.Refusals.{checked}
 use lib.ListN.{length}
-use Rattle.compaction.specs.Calls.{Both, answer as compactAnswer}
+use Rattle.compaction.specs.Calls.{Both, compactAnswer}
 use Rattle.ezumokarin.specs.Compact.{wroteBoth, plainCompacted}
 use Rattle.keys.specs.Keys.{Chunk as ChunkOf, chunkAnswer}
 use Rattle.names.specs.Names.{Object as ObjectOf, Full, objectAnswer, fullAnswer, volumePart}

@@ -11,7 +11,7 @@ use texts::MAX_NUMBER;
 use texts::scan;
 use texts::text;
 ghost use mathlib.Core.Path.{_≡_};
-ghost use Prim.Native.Nat.{_+_, _≤_};
+ghost use Prim.Native.Nat.{_≤_};
 ghost use lib.ListN.{length};
 ghost use Rattle.codec.specs.Splice.{splice};
 ghost use Rattle.codec.specs.Inner.{Puts};

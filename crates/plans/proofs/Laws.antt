@@ -6,4 +6,5 @@ pub mod Calls
 pub mod Divide
 pub mod Fits
 pub mod Bytes
+pub mod Reads
 pub mod Answered

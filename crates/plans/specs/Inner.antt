@@ -39,4 +39,4 @@ pub record Cut (l start count from end : ℕ) : Type 0 where
   pub order : from ≤ end
   pub within : end ≤ l
   pub size : end - from ≡ cutTo l start count
-  pub place : from < end → from ≡ start
+  pub starts : from < end → from ≡ start

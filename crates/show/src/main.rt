@@ -5,7 +5,7 @@ use outcomes::Answer;
 ghost use lib.ListN.{length};
 ghost use mathlib.Core.Path.{_≡_};
 ghost use Rattle.listing.specs.Calls.{textRoom};
-ghost use Rattle.show.specs.Input.{Within};
+ghost use Rattle.show.specs.Inner.{Within};
 
 // What reading a file gave: how many bytes it has, that it has more than the buffer holds, or that it could not be read.
 pub enum Input {

@@ -14,7 +14,7 @@ use Rattle.outcomes.proofs.Laws.Outcome.{row-holds, row-passes, short-holds, sh
 use Rattle.slices.proofs.Laws.Record.{length-records}
 use Rattle.slices.proofs.Laws.Refusals.{list-stops, list-lets}
 use Rattle.blocks.specs.Blocks.{blockAllowed, blockSizeBad}
-use Rattle.compaction.specs.Calls.{tooFew, idInUse, Both, both, delivered, laterRows, compactRows, compactOutcome}
+use Rattle.compaction.specs.Calls.{tooFew, idInUse, Both, both, deliveredBoth, laterRows, compactRows, compactOutcome}
 use Rattle.outcomes.specs.declared.Refusal.{Refusal}
 use Rattle.slices.specs.declared.Checked.the-variants as check
 
@@ -50,7 +50,7 @@ module _ (bs : List ℕ) (B k id planRoom listRoom : ℕ) where
     later-9 u = row-passes _ _ _ _ _ enough ∙ row-holds _ _ _ _ _ u
 
     pub later-12 : idInUse id (records bs) ≡ false
-        → firstOf (laterRows (records bs) B k id planRoom listRoom) (done (both B (records bs) k id)) ≡ delivered (both B (records bs) k id) planRoom listRoom
+        → firstOf (laterRows (records bs) B k id planRoom listRoom) (done (both B (records bs) k id)) ≡ deliveredBoth (both B (records bs) k id) planRoom listRoom
     unfolding laterRows
     later-12 u = row-passes _ _ _ _ _ enough ∙ row-passes _ _ _ _ _ u
 
@@ -65,12 +65,12 @@ module _ (bs : List ℕ) (B k id planRoom listRoom : ℕ) where
 -- ---- the two buffers
 
 module _ (b : Both) (planRoom listRoom : ℕ) where
-  pub short-plan : planRoom < length (b .plan) → delivered b planRoom listRoom ≡ refused (refusal number.shortBuffer 0)
+  pub short-plan : planRoom < length (b .plan) → deliveredBoth b planRoom listRoom ≡ refused (refusal number.shortBuffer 0)
   short-plan h = short-holds (b .plan) planRoom (done b) _ h
 
-  pub short-list : length (b .plan) ≤ planRoom → listRoom < length (b .list) → delivered b planRoom listRoom ≡ refused (refusal number.shortBuffer 0)
+  pub short-list : length (b .plan) ≤ planRoom → listRoom < length (b .list) → deliveredBoth b planRoom listRoom ≡ refused (refusal number.shortBuffer 0)
   short-list h l = short-passes (b .plan) planRoom (done b) (tooShort (b .list) listRoom ∷ []) h ∙ short-holds (b .list) listRoom (done b) [] l
 
-  pub room-for-both : length (b .plan) ≤ planRoom → length (b .list) ≤ listRoom → delivered b planRoom listRoom ≡ done b
+  pub room-for-both : length (b .plan) ≤ planRoom → length (b .list) ≤ listRoom → deliveredBoth b planRoom listRoom ≡ done b
   unfolding firstOf
   room-for-both h l = short-passes (b .plan) planRoom (done b) (tooShort (b .list) listRoom ∷ []) h ∙ short-passes (b .list) listRoom (done b) [] l

@@ -18,7 +18,7 @@ use Rattle.plans.specs.Piece.{pieceSize, encodePieces}
 use Rattle.plans.specs.Plan.{pieces}
 use Rattle.plans.proofs.Laws.Pieces.{length-encodePieces}
 use Rattle.compaction.specs.Compaction.{compactionPlan, planBytes, newList, newListBytes}
-use Rattle.compaction.specs.Calls.{both, delivered, Compacts}
+use Rattle.compaction.specs.Calls.{both, deliveredBoth, Compacts}
 use Rattle.compaction.specs.Inner.{standFor, Ends}
 use Rattle.codec.proofs.Laws.All.{all-take}
 use Rattle.slices.proofs.Laws.Firsts.{encode-append, firsts-records, rest-bytes}
@@ -63,20 +63,20 @@ module _ (bs : List ℕ) (b : Bytes bs) (whole : length bs % recordSize ≡ 0) (
 
       module _ (plan list : List ℕ) where
         pub first-short-plan : length plan < n * pieceSize
-            → delivered (both B (records bs) k id) (length plan) (length list) ≡ refused (refusal number.shortBuffer 0)
+            → deliveredBoth (both B (records bs) k id) (length plan) (length list) ≡ refused (refusal number.shortBuffer 0)
         unfolding both
         first-short-plan l = short-plan (both B (records bs) k id) (length plan) (length list) (omega (arith, plan-length))
 
         module _ (l : n * pieceSize ≤ length plan) where
           pub first-short-list : length list < m + (length bs - k * recordSize)
-              → delivered (both B (records bs) k id) (length plan) (length list) ≡ refused (refusal number.shortBuffer 0)
+              → deliveredBoth (both B (records bs) k id) (length plan) (length list) ≡ refused (refusal number.shortBuffer 0)
           unfolding both
           first-short-list g = short-list (both B (records bs) k id) (length plan) (length list) (omega (arith, plan-length)) (omega (arith, list-length))
 
           pub first-done : m + (length bs - k * recordSize) ≤ length list → (plan' list' : List ℕ)
               → plan' ≡ splice plan 0 (encodePieces (pieces B (records firstBytes) from (end - from)))
               → list' ≡ splice list 0 (encodeAll (standFor from end id) ++ drop (k * recordSize) bs)
-              → Compacts (delivered (both B (records bs) k id) (length plan) (length list)) plan list (Wrote (n * pieceSize) (m + (length bs - k * recordSize))) plan' list'
+              → Compacts (deliveredBoth (both B (records bs) k id) (length plan) (length list)) plan list (Wrote (n * pieceSize) (m + (length bs - k * recordSize))) plan' list'
           unfolding both
           first-done g plan' list' p q =
               replies-done _ (both B (records bs) k id) _ _

@@ -5,6 +5,8 @@ use native.Mathlib.Decide.{decLt, ℕ-discrete}
 use mathlib.Core.Path.{_≡_, refl, sym, ap, _∙_}
 use mathlib.Core.Bool.{Bool, true, false, cond, not, _||_, true≢false}
 use mathlib.Core.List.{List}
+use borrow.Author.Tests.{not-true, not-false}
+use Rattle.codec.proofs.Laws.Bools.{or-none}
 use Rattle.slices.specs.Limits.{chunk}
 use Rattle.slices.specs.Cover.{cover, isNothing}
 use Rattle.compaction.specs.Span.{IsFirst, IsLast, anyBelow, first, last, isCovered, firstCovered, lastCovered, coversNothing}
@@ -13,10 +15,6 @@ use Rattle.slices.specs.declared.Source.{Source}
 use Rattle.slices.specs.declared.Source.the-variants.{Nothing, Zero, Byte}
 
 -- ---- of any test
-
-or-none : (a b : Bool) → (a || b) ≡ false → (a ≡ false) × (b ≡ false)
-or-none true b e = absurd (true≢false e)
-or-none false b e = (refl, e)
 
 module _ (t : ℕ → Bool) where
   pub none-below : (n : ℕ) → anyBelow t n ≡ false → (p : ℕ) → p < n → t p ≡ false
@@ -96,18 +94,8 @@ uncovered xs p e = is-nothing (cover xs p) e
 pub record Spans (xs : List Record) : Type 0 where
   pub order : firstCovered xs ≤ lastCovered xs
   pub top : lastCovered xs < chunk
-  pub at-first : isCovered xs (firstCovered xs) ≡ true
-  pub at-last : isCovered xs (lastCovered xs) ≡ true
   pub left : (p : ℕ) → p < firstCovered xs → cover xs p ≡ Nothing
   pub right : (p : ℕ) → lastCovered xs < p → p < chunk → cover xs p ≡ Nothing
-
-not-false : (b : Bool) → not b ≡ false → b ≡ true
-not-false true e = refl
-not-false false e = absurd (true≢false e)
-
-not-true : (b : Bool) → not b ≡ true → b ≡ false
-not-true true e = sym e
-not-true false e = refl
 
 pub something-covered : (xs : List Record) → coversNothing xs ≡ false → anyBelow (isCovered xs) chunk ≡ true
 unfolding coversNothing
@@ -126,8 +114,6 @@ spans xs e =
         | no h ↦ omega arith
       ];
       top = l .inside;
-      at-first = f .here;
-      at-last = l .here;
       left = λ p h. uncovered xs p (f .before p h);
       right = λ p a b. uncovered xs p (l .beyond p a b);
     }

@@ -1,13 +1,14 @@
 -- A list in which an id stands nowhere reads no byte of that id's slices. Assumes nothing.
 use Prim.Native.Nat.{ℕ, _+_, _-_}
 use native.Mathlib.Omega.{arith}
-use mathlib.Core.Path.{_≡_, refl}
-use mathlib.Core.Bool.{Bool, true, false, cond, _||_, true≢false}
+use mathlib.Core.Path.{_≡_}
+use mathlib.Core.Bool.{Bool, true, false, cond}
 use mathlib.Core.Logic.{_≢_}
 use mathlib.Core.List.{List, [], _∷_}
 use lib.Dec.{eqb}
 use borrow.Author.Tests.{eqb-false}
 use Rattle.codec.specs.All.{All}
+use Rattle.codec.proofs.Laws.Bools.{or-none}
 use Rattle.slices.specs.Cover.{cover, over, layer, given, covers}
 use Rattle.plans.specs.Location.{location, locationAt}
 use Rattle.slices.specs.Ids.{stands}
@@ -15,10 +16,6 @@ use Rattle.compaction.specs.Calls.{idInUse}
 use Rattle.slices.specs.declared.Record.{Record}
 use Rattle.slices.specs.declared.Source.{Source}
 use Rattle.slices.specs.declared.Source.the-variants.{Nothing, Zero, Byte}
-
-or-none : (a b : Bool) → (a || b) ≡ false → (a ≡ false) × (b ≡ false)
-or-none true b e = absurd (true≢false e)
-or-none false b e = (refl, e)
 
 -- the id stands in none of the records
 abbrev pub Fresh : ℕ → List Record → Type 0

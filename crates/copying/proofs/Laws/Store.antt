@@ -6,7 +6,7 @@ use mathlib.Core.Path.{_≡_, refl, sym, _∙_}
 use mathlib.Core.Bool.{Bool, true, false, cond, _&&_, false≢true}
 use lib.Dec.{eqb}
 use borrow.Author.Tests.{eqb-true, eq-eqb}
-use Rattle.views.proofs.Laws.Next.{and-both}
+use Rattle.codec.proofs.Laws.Bools.{and-both}
 use Rattle.blocks.specs.Blocks.{blockLength}
 use Rattle.plans.specs.Location.{location}
 use Rattle.plans.specs.Store.{Store, fetch}

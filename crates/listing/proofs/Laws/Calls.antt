@@ -40,6 +40,6 @@ module _ (longer : Bool) (bs : List ℕ) where
     unfolding listing textOf
     listing-view vs e = rw (h, e)
 
--- the lines of an accepted list are those of its view's records
+-- where the view call answers, the lines are those of the view's records
 pub listing-prints : (bs : List ℕ) → Bytes bs → (vs : List ℕ) → viewOutcome bs chunk fileLimit ≡ done vs → listing false bs ≡ header ++ lines (view (records bs) chunk)
 listing-prints bs b vs e = listing-view false bs refl vs e ∙ ap (λ (rs : List Record). header ++ lines rs) (view-done-back bs b chunk fileLimit vs e)

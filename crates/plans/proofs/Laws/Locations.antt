@@ -17,7 +17,8 @@ use Rattle.blocks.specs.Blocks.{blockLength}
 use Rattle.views.specs.View.{next}
 use Rattle.views.specs.Inner.{shift}
 use Rattle.runs.specs.Inner.{Unbroken}
-use Rattle.views.proofs.Laws.Next.{shift-zero, next-is, and-both}
+use Rattle.views.proofs.Laws.Next.{shift-zero, next-is}
+use Rattle.codec.proofs.Laws.Bools.{and-both}
 use Rattle.slices.proofs.Laws.Sources.{Real, cover-real}
 use Rattle.runs.proofs.Laws.Walk.{value-at}
 use Rattle.plans.specs.Location.{location, locationAt, nextLocation, onward}

@@ -43,7 +43,7 @@ unfolding readPlan pieces runs
 plan-cut B rs l start count from end c = go (decLt from end)
   where
     go : Dec (from < end) → pieces B rs start (cutTo l start count) ≡ pieces B rs from (end - from)
-    go (yes h) = rw (← c .size, c .place h)
+    go (yes h) = rw (← c .size, c .starts h)
     go (no h) =
         let e : end - from ≡ 0 = omega (arith, c .order) in
         rw (← c .size, e)

@@ -9,7 +9,7 @@ use Rattle.plans.proofs.cut.Tie as tie
 
 returns : tie.Need-returns
 unfolding cutTo
-returns c = record { order = omega arith; within = omega arith; size = omega arith; place = λ l. omega arith }
+returns c = record { order = omega arith; within = omega arith; size = omega arith; starts = λ l. omega arith }
 
 sub-if2 : tie.Need-sub-if2
 sub-if2 c = search needs
@@ -27,7 +27,7 @@ cast-t8 c = omega arith
 
 returns-2 : tie.Need-returns-2
 unfolding cutTo
-returns-2 c = record { order = omega arith; within = omega arith; size = omega arith; place = λ l. refl }
+returns-2 c = record { order = omega arith; within = omega arith; size = omega arith; starts = λ l. refl }
 
 cast-t9 : tie.Need-cast-t9
 unfolding chunk
@@ -39,7 +39,7 @@ cast-t10 c = omega arith
 
 returns-3 : tie.Need-returns-3
 unfolding cutTo
-returns-3 c = record { order = omega arith; within = omega arith; size = omega arith; place = λ l. refl }
+returns-3 c = record { order = omega arith; within = omega arith; size = omega arith; starts = λ l. refl }
 
 pub cut-spec : {M : Type 1} → statement M
 cut-spec =

@@ -4,7 +4,7 @@ use Prim.Native.Nat.{ℕ, zero, suc, _+_, _-_, _<_, _≤_}
 use native.Mathlib.Omega.{arith}
 use native.Mathlib.Nat.{add-zero, add-suc}
 use native.Mathlib.Decide.{ℕ-discrete, decLt}
-use mathlib.Core.Bool.{Bool, true, false, _&&_, false≢true}
+use mathlib.Core.Bool.{true, false, _&&_, false≢true}
 use mathlib.Core.Path.{_≡_, refl}
 use mathlib.Core.Logic.{_≢_, _⊎_, inl, inr}
 use mathlib.Core.List.{List, [], _∷_}
@@ -14,6 +14,7 @@ use Rattle.slices.specs.Cover.{cover, over, layer, given, isNothing}
 use Rattle.runs.specs.Runs.{Run, Joins, IsRun}
 use Rattle.views.specs.View.{next}
 use Rattle.codec.specs.All.{All}
+use Rattle.codec.proofs.Laws.Bools.{and-both}
 use Rattle.views.specs.Inner.{shift}
 use Rattle.slices.proofs.Laws.Cover.{layer-in, layer-before, layer-after, given-zero, given-byte}
 use Rattle.slices.proofs.Laws.Tags.{OneOf}
@@ -64,10 +65,6 @@ cover-next (r ∷ rs) p h =
     (layer-next r p (λ e. h .0 (inl e)) (λ e. h .0 (inr e)))
 
 -- ---- the sources inside a run
-
-pub and-both : (a b : Bool) → (a && b) ≡ true → (a ≡ true) × (b ≡ true)
-and-both true b h = (refl, h)
-and-both false b h = absurd (false≢true h)
 
 pub next-is : (a b : Source) (k : ℕ) → next (shift a k) b ≡ true → b ≡ shift a (suc k)
 unfolding next shift

@@ -1,4 +1,4 @@
--- What is known of a file that was read. Assumes nothing.
+-- Inner: what is known of a file that was read. It serves the contract of an inner function alone. Assumes nothing.
 use Prim.Native.Nat.{ℕ, _≤_}
 use Rattle.show.specs.declared.Input.{Input}
 use Rattle.show.specs.declared.Input.the-variants.{Whole, Longer, Failed}
