@@ -49,7 +49,8 @@ pub extern "C" fn ezk_read_full_name(name: &[u8]) -> Object
     ensures { λ r. ⌜ r ≡ fullRead (readFull (now (name .entry))) ⌝ }
 {
     let named = names::read_full_name(name);
-    let n = names::volume_length(name, named) as u64;
+    let volume = names::volume_part(name, named);
+    let n = volume.len() as u64;
     answers::of_object(named, n)
 }
 

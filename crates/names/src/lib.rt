@@ -76,15 +76,16 @@ pub fn read_full_name(name: &[u8]) -> ObjectName
     block::read(name, slash)
 }
 
-// How long the volume name of a full name is, where the name was read as `named`; 0 where it is refused.
-pub fn volume_length(name: &[u8], named: ObjectName) -> usize
+// The volume name of a full name that was read as `named`, as a part of it; an empty part where the name is refused.
+pub fn volume_part(name: &[u8], named: ObjectName) -> &[u8]
     requires { ⌜ named ≡ fullAnswer (readFull (now name)) ⌝ }
-    ensures { λ r. ⌜ r ≡ length (volumePart (readFull (now (name .entry)))) ⌝ }
+    ensures { λ r. ⌜ now r ≡ volumePart (readFull (now (name .entry))) ⌝ }
 {
     if let ObjectName::Refused(_) = named {
-        return 0;
+        return &name[..0];
     }
-    volume::run(name)
+    let n = volume::run(name);
+    &name[..n]
 }
 
 // The volume name of a full name, as a part of it; an empty part where the name is refused.
@@ -92,6 +93,5 @@ pub fn volume_of(name: &[u8]) -> &[u8]
     ensures { λ r. ⌜ now r ≡ volumePart (readFull (now (name .entry))) ⌝ }
 {
     let named = read_full_name(name);
-    let n = volume_length(name, named);
-    &name[..n]
+    volume_part(name, named)
 }

@@ -184,15 +184,15 @@ full-steps t s0 s1 e0 e1 =
     ap (λ (x : Scan). objectAnswer (reading objectOf x)) (sym (on-word nameForm t [] slash (volumeAt t) s1 (rw e0 at e1))) ∙ answer-same (take (volumeRun t) t) _
 
 -- the length of the part that is handed back
-pub volume-none : (o : Outcome Full) (r : Refusal) → Refused r ≡ fullAnswer o → 0 ≡ length (volumePart o)
+pub volume-none : (o : Outcome Full) (r : Refusal) → Refused r ≡ fullAnswer o → [] ≡ volumePart o
 unfolding answerOf volumePart
 volume-none (refused x) r e = refl
 volume-none (done f) r e = let z : _≡_ {A = ℕ} 0 1 = cc in absurd (omega arith)
 
-pub volume-some : (t : List ℕ) (id block len : ℕ) → Block id block len ≡ fullAnswer (readFull t) → volumeRun t ≡ length (volumePart (readFull t))
+pub volume-some : (t : List ℕ) (id block len : ℕ) → Block id block len ≡ fullAnswer (readFull t) → take (volumeRun t) t ≡ volumePart (readFull t)
 unfolding readFull answerOf volumePart inVolume
 volume-some t id block len e = go (reading objectOf (fullScan t)) e
   where
-    go : (o : Outcome Object) → Block id block len ≡ fullAnswer (inVolume (take (volumeRun t) t) o) → volumeRun t ≡ length (volumePart (inVolume (take (volumeRun t) t) o))
+    go : (o : Outcome Object) → Block id block len ≡ fullAnswer (inVolume (take (volumeRun t) t) o) → take (volumeRun t) t ≡ volumePart (inVolume (take (volumeRun t) t) o)
     go (refused x) e = let z : _≡_ {A = ℕ} 0 1 = cc in absurd (omega arith)
-    go (done o) e = sym (run-reads t .1)
+    go (done o) e = refl

@@ -8,8 +8,8 @@ use Rattle.ezumokarin.proofs.naming.ezk_read_full_name.Tie as tie
 read-full-name-requires : tie.Need-read-full-name-requires
 read-full-name-requires c κs = search needs
 
-volume-length-requires : tie.Need-volume-length-requires
-volume-length-requires c κs = search needs
+volume-part-requires : tie.Need-volume-part-requires
+volume-part-requires c κs = search needs
 
 of-object-requires : tie.Need-of-object-requires
 of-object-requires c κs = search needs
@@ -17,9 +17,9 @@ of-object-requires c κs = search needs
 returns : tie.Need-returns
 returns c =
     let named = c .before .before .read-full-name .ensures in
-    let volume = c .before .volume-length .ensures in
+    let volume = c .before .volume-part .ensures in
     c .of-object .ensures ∙ rw (named, volume) (plain-full _)
 
 pub ezk-read-full-name-spec : {M : Type 1} → statement M
 ezk-read-full-name-spec =
-    tie.close (tie.spec read-full-name-requires volume-length-requires of-object-requires returns)
+    tie.close (tie.spec read-full-name-requires volume-part-requires of-object-requires returns)
