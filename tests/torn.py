@@ -13,15 +13,19 @@ while data:
     data = data[os.write(master, data[:1024]):]
 
 
-def unread():
-    return struct.unpack("i", fcntl.ioctl(slave, termios.FIONREAD, b"\0\0\0\0"))[0]
+def waits():
+    unread = struct.unpack("i", fcntl.ioctl(slave, termios.FIONREAD, bytes(4)))[0]
+    with open(f"/proc/{program.pid}/stat") as stat:
+        state = stat.read().rpartition(") ")[2][0]
+    return unread == 0 and state == "S"
 
 
-# The bytes must have been read, and the next read begun: what is on the way when a terminal is closed may be lost.
-time.sleep(0.3)
-while unread():
+# The bytes must have been read and the next read begun, for half a second: what is on the way when a terminal is closed may be lost, and a read begun later
+# is the end of a file. A program that never waits is ended by the caller.
+quiet = 0
+while quiet < 10:
     time.sleep(0.05)
-time.sleep(0.3)
+    quiet = quiet + 1 if waits() else 0
 os.close(slave)
 os.close(master)
 os.remove("list.bin")
