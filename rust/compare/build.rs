@@ -1,5 +1,6 @@
 //! Compiles header.c against the project's C header, or against the one in the folder
-//! EZUMOKARIN_INCLUDE (an absolute path), so that a changed header can be tried.
+//! EZUMOKARIN_INCLUDE (an absolute path), so that a changed header can be tried. EZUMOKARIN_SPOIL
+//! holds C that header.c runs on every view, so that the comparison can be tried.
 
 use std::env;
 use std::path::PathBuf;
@@ -14,12 +15,15 @@ fn main() {
     };
     let (source, object) = (here.join("header.c"), made.join("header.o"));
     let archive = made.join("libheader.a");
+    let spoil = env::var("EZUMOKARIN_SPOIL").unwrap_or_default();
     println!("cargo:rerun-if-env-changed=EZUMOKARIN_INCLUDE");
+    println!("cargo:rerun-if-env-changed=EZUMOKARIN_SPOIL");
     println!("cargo:rerun-if-changed={}", source.display());
     println!("cargo:rerun-if-changed={}", include.join("ezumokarin.h").display());
     run(Command::new("gcc")
         .args(["-std=c11", "-O2", "-Wall", "-Wextra", "-Wconversion", "-Werror", "-c", "-I"])
         .arg(&include)
+        .arg(format!("-DSPOIL_VIEW={spoil}"))
         .arg(&source)
         .arg("-o")
         .arg(&object));

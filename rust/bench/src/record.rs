@@ -73,28 +73,28 @@ impl Source {
 
 /// Where the byte at a position lies.
 #[derive(Clone, Copy, Debug, PartialEq, Eq)]
-pub enum Place {
+pub enum Location {
     Zeros,
     Object { id: u64, block: u32, length: u32, at: u32 },
 }
 
-impl Place {
+impl Location {
     #[inline]
-    pub fn of(source: Source, block_size: u32) -> Place {
+    pub fn of(source: Source, block_size: u32) -> Location {
         let Source::Byte { id, size, off } = source else {
-            return Place::Zeros;
+            return Location::Zeros;
         };
         // Block sizes are powers of two: no division is needed.
         let at = off & (block_size - 1);
         let block = off >> block_size.trailing_zeros();
-        Place::Object { id, block, length: block_size.min(size - (off - at)), at }
+        Location::Object { id, block, length: block_size.min(size - (off - at)), at }
     }
 
     #[inline]
-    pub fn after(self, bytes: u32) -> Place {
+    pub fn after(self, bytes: u32) -> Location {
         match self {
-            Place::Object { id, block, length, at } => {
-                Place::Object { id, block, length, at: at + bytes }
+            Location::Object { id, block, length, at } => {
+                Location::Object { id, block, length, at: at + bytes }
             }
             zeros => zeros,
         }
@@ -103,8 +103,8 @@ impl Place {
     #[inline]
     pub fn write(self, place: u32, len: u32, out: &mut [u8; PIECE]) {
         let (mark, id, block, length, at) = match self {
-            Place::Zeros => (b"RZ", 0, 0, 0, 0),
-            Place::Object { id, block, length, at } => (b"RB", id, block, length, at),
+            Location::Zeros => (b"RZ", 0, 0, 0, 0),
+            Location::Object { id, block, length, at } => (b"RB", id, block, length, at),
         };
         out[0..2].copy_from_slice(mark);
         out[2..6].copy_from_slice(&place.to_be_bytes());

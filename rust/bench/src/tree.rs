@@ -1,7 +1,7 @@
 //! The cut tree: each record cuts the tree of those before it in two at its ends, drops
 //! the middle and becomes the root. So the stock client resolves a list.
 
-use crate::record::{checked, Place, Record, RecordBytes, Source, CHUNK, PIECE, RECORD};
+use crate::record::{checked, Location, Record, RecordBytes, Source, CHUNK, PIECE, RECORD};
 
 type Tree = Option<Box<Node>>;
 
@@ -96,25 +96,25 @@ pub fn write_plan(
     to: u32,
     out: &mut [u8],
 ) -> Option<usize> {
-    let mut pieces: Vec<(u32, u32, Place)> = Vec::new();
+    let mut pieces: Vec<(u32, u32, Location)> = Vec::new();
     resolve(records, from, to, |start, end, source| {
         let mut p = start;
         while p < end {
-            let place = Place::of(source.after(p - start), block_size);
-            let next = match place {
-                Place::Zeros => end,
-                Place::Object { at, .. } => end.min(p + (block_size - at)),
+            let location = Location::of(source.after(p - start), block_size);
+            let next = match location {
+                Location::Zeros => end,
+                Location::Object { at, .. } => end.min(p + (block_size - at)),
             };
             match pieces.last_mut() {
-                Some(piece) if piece.2.after(p - piece.0) == place => piece.1 = next,
-                _ => pieces.push((p, next, place)),
+                Some(piece) if piece.2.after(p - piece.0) == location => piece.1 = next,
+                _ => pieces.push((p, next, location)),
             }
             p = next;
         }
     });
     let (out, _) = out.get_mut(..pieces.len() * PIECE)?.as_chunks_mut::<PIECE>();
-    for (bytes, (start, end, place)) in out.iter_mut().zip(&pieces) {
-        place.write(start - from, end - start, bytes);
+    for (bytes, (start, end, location)) in out.iter_mut().zip(&pieces) {
+        location.write(start - from, end - start, bytes);
     }
     Some(pieces.len() * PIECE)
 }

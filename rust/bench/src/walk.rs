@@ -3,7 +3,7 @@
 //! Two scans under everything: the source at a position, and how far it certainly runs on.
 //! The view, the plan and compaction walk twice: count, then write.
 
-use crate::record::{checked, four, Place, Record, RecordBytes, Source, CHUNK, PIECE, RECORD};
+use crate::record::{checked, four, Location, Record, RecordBytes, Source, CHUNK, PIECE, RECORD};
 
 /// The last record that covers the position; only pos and len are read until one does.
 #[inline]
@@ -46,27 +46,33 @@ fn run_at(records: &[RecordBytes], p: u32, end: u32) -> (Source, u32) {
     (first, to)
 }
 
-/// The maximal piece from `p` on: its place and its end.
-fn piece_at(records: &[RecordBytes], block_size: u32, p: u32, end: u32) -> (Place, u32) {
-    let first = Place::of(source_at(records, p), block_size);
-    let mut to = place_to(records, first, block_size, p, end);
+/// The maximal piece from `p` on: its location and its end.
+fn piece_at(records: &[RecordBytes], block_size: u32, p: u32, end: u32) -> (Location, u32) {
+    let first = Location::of(source_at(records, p), block_size);
+    let mut to = location_to(records, first, block_size, p, end);
     while to < end {
-        let next = Place::of(source_at(records, to), block_size);
+        let next = Location::of(source_at(records, to), block_size);
         if next != first.after(to - p) {
             break;
         }
-        to = place_to(records, next, block_size, to, end);
+        to = location_to(records, next, block_size, to, end);
     }
     (first, to)
 }
 
-/// How far a place certainly runs on: to a boundary or to the end of its block.
+/// How far a location certainly runs on: to a boundary or to the end of its block.
 #[inline]
-fn place_to(records: &[RecordBytes], place: Place, block_size: u32, p: u32, end: u32) -> u32 {
+fn location_to(
+    records: &[RecordBytes],
+    location: Location,
+    block_size: u32,
+    p: u32,
+    end: u32,
+) -> u32 {
     let to = unbroken_to(records, p, end);
-    match place {
-        Place::Zeros => to,
-        Place::Object { at, .. } => to.min(p + (block_size - at)),
+    match location {
+        Location::Zeros => to,
+        Location::Object { at, .. } => to.min(p + (block_size - at)),
     }
 }
 
@@ -103,8 +109,8 @@ pub fn write_plan(
     let (out, _) = out.get_mut(..pieces * PIECE)?.as_chunks_mut::<PIECE>();
     let mut p = from;
     for bytes in out {
-        let (place, end) = piece_at(records, block_size, p, to);
-        place.write(p - from, end - p, bytes);
+        let (location, end) = piece_at(records, block_size, p, to);
+        location.write(p - from, end - p, bytes);
         p = end;
     }
     Some(pieces * PIECE)

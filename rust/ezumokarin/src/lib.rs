@@ -37,7 +37,7 @@ pub use keys::{read_redis_key, read_tkv_key, write_redis_key, write_tkv_key, Chu
 pub use lists::{check, compact, read_plan, tidy, view, Compacted};
 pub use names::{read_full_name, read_object_name, FullName, ObjectName};
 pub use names::{write_full_name, write_object_name};
-pub use piece::{pieces, Piece, Place};
+pub use piece::{pieces, Location, Piece};
 pub use record::{records, Record};
 pub use refusal::Refusal;
 

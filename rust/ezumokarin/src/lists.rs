@@ -59,16 +59,16 @@ pub fn tidy(list: &[u8], out: &mut [u8]) -> Result<usize, Refusal> {
 /// returns its length in bytes. Refusals: 7, 8, 1 to 6, 12.
 ///
 /// ```
-/// use ezumokarin::{pieces, read_plan, Piece, Place, Record};
+/// use ezumokarin::{pieces, read_plan, Piece, Location, Record};
 /// let slice = Record { pos: 0, id: 3, size: 100_000, off: 0, len: 100_000 };
 /// let mut out = [0; 3 * Piece::LEN];
 /// let count = read_plan(&slice.to_bytes(), 100_001, 65_536, 65_000, u64::MAX, &mut out)?;
 /// let plan: Vec<Piece> = pieces(&out[..count]).collect();
-/// let first = Place::Object { id: 3, block: 0, length: 65_536, at: 65_000 };
-/// let second = Place::Object { id: 3, block: 1, length: 34_464, at: 0 };
+/// let first = Location::Object { id: 3, block: 0, length: 65_536, at: 65_000 };
+/// let second = Location::Object { id: 3, block: 1, length: 34_464, at: 0 };
 /// assert_eq!(plan[0], Piece { place: 0, from: first, len: 536 });
 /// assert_eq!(plan[1], Piece { place: 536, from: second, len: 34_464 });
-/// assert_eq!(plan[2], Piece { place: 35_000, from: Place::Zeros, len: 1 });
+/// assert_eq!(plan[2], Piece { place: 35_000, from: Location::Zeros, len: 1 });
 /// # Ok::<(), ezumokarin::Refusal>(())
 /// ```
 pub fn read_plan(

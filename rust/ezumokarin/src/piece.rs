@@ -8,14 +8,14 @@ pub struct Piece {
     /// Place from the start of the read.
     pub place: u32,
     /// Where the bytes come from.
-    pub from: Place,
+    pub from: Location,
     /// How many bytes.
     pub len: u32,
 }
 
 /// Where the bytes of a piece come from.
 #[derive(Clone, Copy, Debug, PartialEq, Eq, Hash)]
-pub enum Place {
+pub enum Location {
     /// Mark `RZ`: the bytes are 0.
     Zeros,
     /// Mark `RB`: consecutive bytes of one object.
@@ -37,8 +37,8 @@ impl Piece {
 
     fn from_bytes(bytes: &[u8]) -> Piece {
         let from = match &bytes[..2] {
-            b"RZ" => Place::Zeros,
-            b"RB" => Place::Object {
+            b"RZ" => Location::Zeros,
+            b"RB" => Location::Object {
                 id: u64::from(four(bytes, 6)) << 32 | u64::from(four(bytes, 10)),
                 block: four(bytes, 14),
                 length: four(bytes, 18),

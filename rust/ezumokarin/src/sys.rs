@@ -3,6 +3,8 @@
 //! length that are good for the whole call, and the library keeps neither.
 #![allow(non_camel_case_types)]
 
+use std::mem::{align_of, offset_of, size_of};
+
 /// What most calls return; `refusal` is 0 on success, fields without meaning are 0.
 #[repr(C)]
 #[derive(Clone, Copy, Debug, Default, PartialEq, Eq)]
@@ -60,6 +62,31 @@ pub struct ezk_chunk_key {
     /// The index of the chunk in its file.
     pub index: u64,
 }
+
+/// Each field is a `u64` at its place, and there are no others: the layout that the C header gives,
+/// of which `compare/header.c` asserts the same. With another one this crate doesn't compile.
+macro_rules! fields {
+    ($type:ident: $($field:ident),+) => {
+        const _: fn($type) = |$type { $($field),+ }| {
+            let _: &[u64] = &[$($field),+];
+        };
+        const _: () = {
+            let offsets = [$(offset_of!($type, $field)),+];
+            let mut field = 0;
+            while field < offsets.len() {
+                assert!(offsets[field] == 8 * field);
+                field += 1;
+            }
+            assert!(size_of::<$type>() == 8 * offsets.len());
+            assert!(align_of::<$type>() == align_of::<u64>());
+        };
+    };
+}
+
+fields!(ezk_answer: refusal, place, count);
+fields!(ezk_compacted: refusal, place, plan, list);
+fields!(ezk_object: refusal, place, id, block, length, volume);
+fields!(ezk_chunk_key: refusal, place, inode, index);
 
 #[allow(missing_docs)] // each function is described in include/ezumokarin.h
 extern "C" {

@@ -28,7 +28,7 @@ pub use keys::ChunkKey;
 pub use keys::{read_redis_key, read_tkv_key, redis_key, tkv_key, write_redis_key, write_tkv_key};
 pub use names::{full_name, object_name, read_full_name, read_object_name, volume_of};
 pub use names::{write_full_name, write_object_name, ObjectName};
-pub use plan::{read_plan, read_plan_bytes, Piece, Place};
+pub use plan::{read_plan, read_plan_bytes, Location, Piece};
 pub use record::Record;
 pub use refusal::Refusal;
 pub use source::{source_at, Source};

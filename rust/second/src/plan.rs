@@ -7,7 +7,7 @@ use crate::{check, put, Answer, Record, Refusal, Source};
 
 /// Where the byte at a position lies.
 #[derive(Clone, Copy, Debug, PartialEq, Eq)]
-pub enum Place {
+pub enum Location {
     Zeros,
     Object { id: u64, block: u64, length: u64, at: u64 },
 }
@@ -16,7 +16,7 @@ pub enum Place {
 #[derive(Clone, Copy, Debug, PartialEq, Eq)]
 pub struct Piece {
     pub place: u64,
-    pub from: Place,
+    pub from: Location,
     pub len: u64,
 }
 
@@ -57,24 +57,25 @@ pub fn plan_bytes(records: &[Record], block_size: u64, from: u64, to: u64) -> Ve
 
 /// The pieces for positions `from` up to `to`.
 fn pieces(records: &[Record], block_size: u64, from: u64, to: u64) -> Vec<Piece> {
-    let mut places = Vec::new();
+    let mut locations = Vec::new();
     for part in parts(records, from, to) {
-        places.extend(in_blocks(part, block_size));
+        locations.extend(in_blocks(part, block_size));
     }
-    let piece = |run: &Run<Place>| Piece { place: run.start - from, from: run.first, len: run.len };
-    join(places).iter().map(piece).collect()
+    let piece =
+        |run: &Run<Location>| Piece { place: run.start - from, from: run.first, len: run.len };
+    join(locations).iter().map(piece).collect()
 }
 
 /// Cuts a part at the edges of its slice's blocks.
-fn in_blocks(part: Run<Source>, block_size: u64) -> Vec<Run<Place>> {
+fn in_blocks(part: Run<Source>, block_size: u64) -> Vec<Run<Location>> {
     let mut cut = Vec::new();
     let mut done = 0;
     while done < part.len {
-        let first = place_of(part.first.after(done), block_size);
+        let first = location_of(part.first.after(done), block_size);
         let left = part.len - done;
         let len = match first {
-            Place::Zeros => left,
-            Place::Object { at, .. } => left.min(block_size - at),
+            Location::Zeros => left,
+            Location::Object { at, .. } => left.min(block_size - at),
         };
         cut.push(Run { start: part.start + done, len, first });
         done += len;
@@ -82,22 +83,22 @@ fn in_blocks(part: Run<Source>, block_size: u64) -> Vec<Run<Place>> {
     cut
 }
 
-/// The object and the place in it that hold a source.
-pub fn place_of(source: Source, block_size: u64) -> Place {
+/// The location of a source.
+pub fn location_of(source: Source, block_size: u64) -> Location {
     let Source::Byte { id, size, off } = source else {
-        return Place::Zeros;
+        return Location::Zeros;
     };
     let block = off / block_size;
     let length = block_size.min(size - block * block_size);
-    Place::Object { id, block, length, at: off % block_size }
+    Location::Object { id, block, length, at: off % block_size }
 }
 
-impl Step for Place {
-    fn after(self, bytes: u64) -> Place {
+impl Step for Location {
+    fn after(self, bytes: u64) -> Location {
         match self {
-            Place::Zeros => Place::Zeros,
-            Place::Object { id, block, length, at } => {
-                Place::Object { id, block, length, at: at + bytes }
+            Location::Zeros => Location::Zeros,
+            Location::Object { id, block, length, at } => {
+                Location::Object { id, block, length, at: at + bytes }
             }
         }
     }
@@ -106,8 +107,8 @@ impl Step for Place {
 impl Piece {
     pub fn to_bytes(&self) -> [u8; PIECE] {
         let (mark, id, block, length, at) = match self.from {
-            Place::Zeros => (b"RZ", 0, 0, 0, 0),
-            Place::Object { id, block, length, at } => (b"RB", id, block, length, at),
+            Location::Zeros => (b"RZ", 0, 0, 0, 0),
+            Location::Object { id, block, length, at } => (b"RB", id, block, length, at),
         };
         let mut bytes = [0; PIECE];
         bytes[0..2].copy_from_slice(mark);
@@ -123,8 +124,8 @@ impl Piece {
     /// The piece that 30 bytes of a plan are.
     pub fn from_bytes(bytes: &[u8]) -> Piece {
         let from = match &bytes[0..2] {
-            b"RZ" => Place::Zeros,
-            b"RB" => Place::Object {
+            b"RZ" => Location::Zeros,
+            b"RB" => Location::Object {
                 id: big_endian(&bytes[6..14]),
                 block: big_endian(&bytes[14..18]),
                 length: big_endian(&bytes[18..22]),

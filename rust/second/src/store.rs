@@ -3,11 +3,11 @@
 use std::collections::HashMap;
 
 use crate::limits::PIECE;
-use crate::plan::place_of;
+use crate::plan::location_of;
 use crate::runs::Step;
-use crate::{source_at, Piece, Place, Record, Source};
+use crate::{source_at, Location, Piece, Record, Source};
 
-/// The place of one byte in a store: id, block, block length, place in block.
+/// The location of one byte in a store: id, block, block length, place in block.
 pub type Key = (u64, u64, u64, u64);
 
 /// One byte for each key: those set, and for all others one that the seed decides.
@@ -28,13 +28,13 @@ impl Store {
 
     /// The byte that a list reads at a position of the chunk.
     pub fn read(&self, records: &[Record], block_size: u64, position: u64) -> u8 {
-        self.at(place_of(source_at(records, position), block_size))
+        self.at(location_of(source_at(records, position), block_size))
     }
 
-    fn at(&self, place: Place) -> u8 {
-        match place {
-            Place::Zeros => 0,
-            Place::Object { id, block, length, at } => self.byte((id, block, length, at)),
+    fn at(&self, location: Location) -> u8 {
+        match location {
+            Location::Zeros => 0,
+            Location::Object { id, block, length, at } => self.byte((id, block, length, at)),
         }
     }
 
@@ -44,7 +44,8 @@ impl Store {
         for piece in plan.chunks(PIECE).map(Piece::from_bytes) {
             for j in 0..piece.len {
                 let new = Source::Byte { id: new_id, size, off: piece.place + j };
-                let Place::Object { id, block, length, at } = place_of(new, block_size) else {
+                let Location::Object { id, block, length, at } = location_of(new, block_size)
+                else {
                     unreachable!("a slice byte has an object");
                 };
                 after.set.insert((id, block, length, at), self.at(piece.from.after(j)));

@@ -2,10 +2,10 @@
 
 mod common;
 use common::*;
-use second::Place::{Object, Zeros};
-use second::{compact, read_plan, Compacted, Piece, Place};
+use second::Location::{Object, Zeros};
+use second::{compact, read_plan, Compacted, Location, Piece};
 
-fn plan(list: &[u8], start: u64, count: u64) -> Vec<(u64, Place, u64)> {
+fn plan(list: &[u8], start: u64, count: u64) -> Vec<(u64, Location, u64)> {
     let mut out = vec![0; 60_000];
     let count = read_plan(list, CHUNK, BLOCK, start, count, &mut out).expect("a plan");
     let piece = |bytes: &[u8]| Piece::from_bytes(bytes);
@@ -13,7 +13,7 @@ fn plan(list: &[u8], start: u64, count: u64) -> Vec<(u64, Place, u64)> {
 }
 
 /// A part of an object of document 000, in MiB: id, block, block length, place.
-fn object(id: u64, block: u64, length: u64, at: u64) -> Place {
+fn object(id: u64, block: u64, length: u64, at: u64) -> Location {
     Object { id, block, length: length * MIB, at: at * MIB }
 }
 

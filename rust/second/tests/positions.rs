@@ -3,7 +3,7 @@
 mod common;
 use common::*;
 use rng::Rng;
-use second::{read_plan, source_at, view, Piece, Place, Record, Source};
+use second::{read_plan, source_at, view, Location, Piece, Record, Source};
 
 const END: u64 = 60;
 
@@ -69,44 +69,44 @@ fn view_is_the_cover_in_fewest_runs() {
     }
 }
 
-/// The place of each byte of a read, as the pieces of a plan give it.
-fn places(bytes: &[u8]) -> Vec<Place> {
-    let mut places = Vec::new();
+/// The location of each byte of a read, as the pieces of a plan give it.
+fn locations(bytes: &[u8]) -> Vec<Location> {
+    let mut locations = Vec::new();
     for piece in bytes.chunks(30).map(Piece::from_bytes) {
-        assert_eq!(piece.place, places.len() as u64);
+        assert_eq!(piece.place, locations.len() as u64);
         assert!(piece.len > 0);
         for i in 0..piece.len {
-            places.push(match piece.from {
-                Place::Zeros => Place::Zeros,
-                Place::Object { id, block, length, at } => {
-                    Place::Object { id, block, length, at: at + i }
+            locations.push(match piece.from {
+                Location::Zeros => Location::Zeros,
+                Location::Object { id, block, length, at } => {
+                    Location::Object { id, block, length, at: at + i }
                 }
             });
         }
     }
-    places
+    locations
 }
 
-fn pieces_in(places: &[Place]) -> usize {
-    let goes_on = |pair: &&[Place]| match (pair[0], pair[1]) {
-        (Place::Object { id, block, length, at }, next) => {
-            next == Place::Object { id, block, length, at: at + 1 }
+fn pieces_in(locations: &[Location]) -> usize {
+    let goes_on = |pair: &&[Location]| match (pair[0], pair[1]) {
+        (Location::Object { id, block, length, at }, next) => {
+            next == Location::Object { id, block, length, at: at + 1 }
         }
         (first, next) => first == next,
     };
-    places.len() - places.windows(2).filter(goes_on).count()
+    locations.len() - locations.windows(2).filter(goes_on).count()
 }
 
 /// Where a source lies, in the words of the paper.
-fn lies(source: Source, block_size: u64) -> Place {
+fn lies(source: Source, block_size: u64) -> Location {
     match source {
-        Source::Byte { id, size, off } => Place::Object {
+        Source::Byte { id, size, off } => Location::Object {
             id,
             block: off / block_size,
             length: std::cmp::min(block_size, size - off / block_size * block_size),
             at: off % block_size,
         },
-        _ => Place::Zeros,
+        _ => Location::Zeros,
     }
 }
 
@@ -131,8 +131,9 @@ fn plan_is_the_cover_in_fewest_pieces() {
         let mut out = vec![0; 2_000];
         let written = read_plan(&list, chunk_len, 65_536, start, count, &mut out).expect("a plan");
         let end = chunk_len.min(start + count);
-        let read: Vec<Place> = (start..end).map(|p| lies(source_at(&records, p), 65_536)).collect();
-        assert_eq!(places(&out[..written]), read);
+        let read: Vec<Location> =
+            (start..end).map(|p| lies(source_at(&records, p), 65_536)).collect();
+        assert_eq!(locations(&out[..written]), read);
         assert_eq!(written / 30, pieces_in(&read));
     }
 }

@@ -1,6 +1,6 @@
 //! Lists and plans as the requirements print them.
 
-use ezumokarin::{pieces, Piece, Place, Record};
+use ezumokarin::{pieces, Location, Piece, Record};
 
 /// pos, id, size, off, len.
 pub type Row = (u32, u64, u32, u32, u32);
@@ -18,8 +18,8 @@ pub fn lines(plan: &[u8]) -> String {
 
 fn line(Piece { place, from, len }: Piece) -> String {
     match from {
-        Place::Zeros => format!("RZ {place} 0 0 0 0 {len}\n"),
-        Place::Object { id, block, length, at } => {
+        Location::Zeros => format!("RZ {place} 0 0 0 0 {len}\n"),
+        Location::Object { id, block, length, at } => {
             format!("RB {place} {id} {block} {length} {at} {len}\n")
         }
     }
