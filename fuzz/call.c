@@ -7,7 +7,7 @@
 
 #include "lent.h"
 
-enum { RECORDS_MAX = 1024, TEXT_MAX = 160 };
+enum { TEXT_MAX = 160 };
 
 #define BIT(number) (1u << (number))
 #define LIST (BIT(1) | BIT(2) | BIT(3) | BIT(4) | BIT(5) | BIT(6))
@@ -177,7 +177,7 @@ static size_t plan_room(size_t records, uint64_t block_size)
 answer make_ample(const call *call)
 {
     size_t records = call->len / EZK_RECORD;
-    if (records > RECORDS_MAX)
+    if (records > LIST_RECORDS)
         records = 0; /* refused */
     size_t room[2] = {TEXT_MAX, EZK_RECORD * (records + 1)};
     if (call->kind == VIEW || call->kind == TIDY)

@@ -27,6 +27,9 @@ enum kind {
 
 enum { REFUSALS = 14 }; /* with 0 for an answer */
 
+/* The most records of a list, and of a tidied list. */
+enum { LIST_RECORDS = 2048, TIDIED_RECORDS = 2048 };
+
 /* Numbers in the order in which the call takes them; bytes are its list, volume or text. */
 typedef struct call {
     enum kind kind;

@@ -3,8 +3,6 @@
 
 #include <string.h>
 
-enum { RECORDS_MAX = 1024 };
-
 static int uncovered(record r)
 {
     return r.id == 0 && r.size != 0;
@@ -71,7 +69,7 @@ void tidy_law(const call *call, const answer *a)
                  "a run of the view is not in the tidied list");
         covered++;
     }
-    must(call, (a->refusal == EZK_TIDIED_RECORDS) == (covered > RECORDS_MAX),
+    must(call, (a->refusal == EZK_TIDIED_RECORDS) == (covered > TIDIED_RECORDS),
          "refused or answered at the wrong number of tidied records");
     done_with(&view);
     if (a->refusal)

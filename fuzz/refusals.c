@@ -5,7 +5,6 @@
 #include "call.h"
 
 enum {
-    RECORDS_MAX = 1024,
     BLOCK_MIN = 65536,
     BLOCK_MAX = 16777216,
     BLOCKS = 1024,
@@ -27,7 +26,7 @@ static uint64_t list_refusal(const uint8_t *list, size_t len, uint64_t *place)
 {
     if (len % EZK_RECORD)
         return EZK_LIST_LENGTH;
-    if (len / EZK_RECORD > RECORDS_MAX)
+    if (len / EZK_RECORD > LIST_RECORDS)
         return EZK_LIST_RECORDS;
     for (size_t i = 0; i < len / EZK_RECORD; i++) {
         uint64_t refusal = record_refusal(record_at(list, i));

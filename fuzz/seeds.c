@@ -1,15 +1,16 @@
 /*
  * seeds FOLDER: writes the inputs that the fuzzer starts from: the cases of the requirements,
- * and limits from both sides.
+ * and limits from both sides. Prints the length of the longest input that is worth trying.
  */
 #include "call.h"
 #include "input.h"
+#include "shape.h"
 
 #include <stdio.h>
 #include <stdlib.h>
 #include <string.h>
 
-enum { MIB = 1 << 20, BLOCK = 4 * MIB, LONGEST = 1025 * EZK_RECORD + 1 };
+enum { MIB = 1 << 20, BLOCK = 4 * MIB };
 
 static const char *folder;
 static unsigned seeds;
@@ -18,7 +19,7 @@ static unsigned seeds;
 static void seed(enum kind kind, unsigned shape, const uint64_t number[4], const void *bytes,
                  size_t len)
 {
-    static uint8_t input[BYTES + LONGEST];
+    static uint8_t input[BYTES + LIST_MAX];
     char path[4096];
     input[KIND] = (uint8_t)kind;
     input[SHAPE] = (uint8_t)shape;
@@ -57,8 +58,8 @@ static size_t list_of(uint8_t *list, const record *records, size_t count)
 
 static void lengths(void)
 {
-    static const uint8_t zeros[LONGEST];
-    const size_t lens[] = {0, 23, 24, 25, 24576, 24600, 24601};
+    static const uint8_t zeros[LIST_MAX];
+    const size_t lens[] = {0, 23, 24, 25, 24600, 49152, 49176, 49177};
     seed(VIEW, AS_IS, WITH(0), zeros, 0);
     seed(VIEW, AS_IS, WITH(5), zeros, 0);
     for (size_t i = 0; i < sizeof lens / sizeof *lens; i++)
@@ -95,7 +96,7 @@ static void small_lists(void)
     list_seeds(AS_IS, list, list_of(list, sizes, 2));
     for (unsigned shape = AS_IS; shape < 256; shape += shape < MANY ? 1 : 7 * SHAPES)
         list_seeds(shape, list, list_of(list, hidden, 2));
-    for (unsigned records = 28; records < 36; records++) /* times 16 */
+    for (unsigned records = 28; records < 36; records++) /* times 32 */
         list_seeds(MANY + SHAPES * records, list, list_of(list, &(record){1, 1, 1, 0, 1}, 1));
     size_t len = list_of(list, three, 3);
     list_seeds(AS_IS, list, len);
@@ -116,9 +117,9 @@ static void small_lists(void)
 /* A slice under zeros at every second byte: as many runs as the slice has bytes. */
 static void combs(void)
 {
-    static record comb[1024];
+    static record comb[1 + (TIDIED_RECORDS + 1) / 2];
     static uint8_t list[sizeof comb / sizeof *comb * EZK_RECORD];
-    for (uint64_t bytes = 1023; bytes <= 1025; bytes++) {
+    for (uint64_t bytes = TIDIED_RECORDS - 1; bytes <= TIDIED_RECORDS + 1; bytes++) {
         size_t count = 1 + bytes / 2;
         comb[0] = (record){0, 7, bytes, 0, bytes};
         for (size_t i = 1; i < count; i++)
@@ -186,5 +187,6 @@ int main(int argc, char **argv)
     combs();
     names();
     keys();
+    printf("%d\n", BYTES + LIST_MAX);
     return 0;
 }

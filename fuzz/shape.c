@@ -4,8 +4,11 @@
 
 #include "input.h"
 
-/* SMALL and MANY lists have positions up to NEAR and few ids, so that much overlaps. */
-enum { NEAR = 64, IDS = 4, UNDER_ALL = 4096 };
+/*
+ * SMALL and MANY lists have positions up to NEAR and few ids, so that much overlaps; MANY ones
+ * go on from there by two positions at a time, below UNDER_ALL.
+ */
+enum { NEAR = 64, IDS = 4, UNDER_ALL = 2 * (NEAR + RECORDS_MAX) };
 
 static record sound(record r, enum shape shape, size_t turn)
 {
@@ -52,7 +55,7 @@ static uint64_t block_size(uint64_t number)
 static void shape_numbers(call *call, enum shape shape)
 {
     uint64_t *n = call->number;
-    uint64_t end = shape == SOUND ? EZK_CHUNK : shape == SMALL ? 2 * NEAR : 40 * NEAR;
+    uint64_t end = shape == SOUND ? EZK_CHUNK : shape == SMALL ? 2 * NEAR : UNDER_ALL;
     switch (call->kind) {
     case VIEW:
         n[0] %= end + 2;
@@ -120,7 +123,7 @@ void give_shape(call *call, uint8_t *bytes, uint8_t choice)
     case TIDY:
     case READ_PLAN:
     case COMPACT:
-        shape_list(call, bytes, shape, choice / SHAPES * 1030 / (255 / SHAPES));
+        shape_list(call, bytes, shape, choice / SHAPES * RECORDS_MAX / (255 / SHAPES));
         break;
     default:
         break;

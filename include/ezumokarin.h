@@ -16,7 +16,7 @@
  * A block size is allowed if it is a power of two from 65,536 to 16,777,216.
  *
  *   EZK_LIST_LENGTH     1  list length is no multiple of 24
- *   EZK_LIST_RECORDS    2  more than 1,024 records
+ *   EZK_LIST_RECORDS    2  more than 2,048 records
  *   EZK_RECORD_END      3  pos + len above 64 MiB
  *   EZK_SLICE_SIZE      4  size above 64 MiB
  *   EZK_ZERO_RECORD     5  id 0 with size or off other than 0
@@ -25,7 +25,7 @@
  *   EZK_BLOCK_SIZE      8  block size not allowed
  *   EZK_NEW_ID          9  new id is 0 or stands in any record of the list, empty ones included
  *   EZK_FIRST_RECORDS  10  k above the number of records
- *   EZK_TIDIED_RECORDS 11  tidied list above 1,024 records
+ *   EZK_TIDIED_RECORDS 11  tidied list above 2,048 records
  *   EZK_BUFFER         12  an output buffer shorter than its answer (either of the two, in
  *                          compaction)
  *   EZK_FORM           13  a name or key not of its form, or numbers to be written that the

@@ -36,7 +36,7 @@ pub record Both : Type 0 where
 unfoldable pub both : ℕ → List Record → ℕ → ℕ → Both
 both B rs k id = record { plan = planBytes B rs k; list = newListBytes rs k id }
 
--- 12: an output buffer shorter than its answer, either of the two
+-- 12: an output buffer shorter than its answer (either of the two, in compaction)
 abbrev pub roomRows : Both → (planRoom listRoom : ℕ) → List Row
 roomRows b planRoom listRoom = tooShort (b .plan) planRoom ∷ tooShort (b .list) listRoom ∷ []
 

@@ -18,9 +18,13 @@ fieldRoom = maxDigits + 1
 abbrev pub lineRoom : ℕ
 lineRoom = 5 * fieldRoom
 
--- the header, and as many lines as a view of 65,536 bytes can have: 286,670 bytes
+-- the most runs of a view that fits its buffer: 2,730
+abbrev pub mostRuns : ℕ
+mostRuns = fileLimit / recordSize
+
+-- the header, and as many lines: 286,670 bytes
 abbrev pub textRoom : ℕ
-textRoom = length header + fileLimit / recordSize * lineRoom
+textRoom = length header + mostRuns * lineRoom
 
 -- refusal 12 where the buffer has not that room, else the listing
 unfoldable pub textOutcome : Bool → List ℕ → ℕ → Outcome (List ℕ)

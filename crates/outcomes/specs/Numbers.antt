@@ -5,7 +5,7 @@ use Prim.Native.Nat.{ℕ}
 abbrev pub notWhole : ℕ
 notWhole = 1
 
--- more than 1,024 records
+-- more than 2,048 records
 abbrev pub tooMany : ℕ
 tooMany = 2
 
@@ -41,7 +41,7 @@ idInUse = 9
 abbrev pub tooFew : ℕ
 tooFew = 10
 
--- tidied list above 1,024 records
+-- tidied list above 2,048 records
 abbrev pub tidiedTooLong : ℕ
 tidiedTooLong = 11
 

@@ -6,7 +6,7 @@ ghost use Rattle.outcomes.specs.Outcome.{refusal};
 // The list's length is no multiple of 24.
 pub const NOT_WHOLE: u8 = 1;
 
-// The list has more than 1,024 records.
+// The list has more records than a list may have.
 pub const TOO_MANY: u8 = 2;
 
 // pos + len is above 64 MiB.
@@ -33,7 +33,7 @@ pub const ID_IN_USE: u8 = 9;
 // k is above the number of records.
 pub const TOO_FEW: u8 = 10;
 
-// The tidied list has more than 1,024 records.
+// The tidied list has more records than one may have.
 pub const TIDIED_TOO_LONG: u8 = 11;
 
 // An output buffer is shorter than its answer.

@@ -9,6 +9,6 @@ recordSize = 24
 unfoldable pub chunk : ℕ
 chunk = 67108864
 
--- a list has at most 1,024 records (refusal 2)
+-- the most records of a list (refusal 2)
 abbrev pub maxRecords : ℕ
-maxRecords = 1024
+maxRecords = 2048

@@ -19,7 +19,7 @@ use Rattle.slices.specs.declared.Checked.the-variants.{Accepted, Refused
 unfoldable pub notWhole : List ℕ → Bool
 notWhole bs = not (eqb (length bs % recordSize) 0)
 
--- 2: more than 1,024 records
+-- 2: more than 2,048 records
 unfoldable pub tooMany : List ℕ → Bool
 tooMany bs = ltb maxRecords (count bs)
 

@@ -10,7 +10,7 @@ use outcomes::Refusal;
 pub const RECORD: usize = 24;
 
 // The most records that a list may have.
-pub const RECORDS: usize = 1024;
+pub const RECORDS: usize = 2048;
 
 // The positions of a chunk.
 pub const CHUNK: u32 = 67108864;

@@ -12,9 +12,9 @@ use Rattle.views.specs.View.{view, tidied, tidiedBytes}
 
 -- the most records of a tidied list (refusal 11)
 abbrev pub maxTidied : ℕ
-maxTidied = 1024
+maxTidied = 2048
 
--- 11: tidied list above 1,024 records
+-- 11: tidied list above 2,048 records
 unfoldable pub tidiedTooLong : List ℕ → Bool
 tidiedTooLong bs = ltb maxTidied (length (tidied (records bs)))
 

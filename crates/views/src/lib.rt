@@ -14,7 +14,7 @@ ghost use Rattle.outcomes.specs.Answers.{Answers};
 ghost use Rattle.views.specs.Calls.{viewOutcome, tidyOutcome};
 
 // The most records that a tidied list may have.
-pub const TIDIED: usize = 1024;
+pub const TIDIED: usize = 2048;
 
 // A run of the cover: its first source, and the position after its last.
 pub struct Run {

@@ -3,7 +3,7 @@
 pub const RECORD: usize = 24;
 pub const PIECE: usize = 30;
 pub const CHUNK: u32 = 67_108_864;
-pub const LIST_RECORDS: usize = 1_024;
+pub const LIST_RECORDS: usize = 2_048;
 
 pub type RecordBytes = [u8; RECORD];
 

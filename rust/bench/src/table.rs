@@ -1,6 +1,6 @@
 //! The table of times and ratios.
 
-use crate::timed::Row;
+use crate::timed::{Row, SIZES};
 
 pub fn markdown(rows: &[Row]) -> String {
     let mut text = String::from(
@@ -23,10 +23,11 @@ pub fn markdown(rows: &[Row]) -> String {
     text + &verdict(rows)
 }
 
-/// The demand on speed: the view at 1,000 records, at most twice the plain walk's time.
+/// The demand on speed: the view of the longest lists, at most twice the plain walk's time.
 fn verdict(rows: &[Row]) -> String {
-    let views = rows.iter().filter(|row| row.call == "view" && row.records == 1_000);
+    let [.., most] = SIZES;
+    let views = rows.iter().filter(|row| row.call == "view" && row.records == most);
     let worst = views.map(|row| row.archive / row.walk).fold(0.0, f64::max);
     let met = if worst <= 2.0 { "met" } else { "not met" };
-    format!("\nView of 1,000 records: at worst {worst:.2} times the plain walk (2 is the limit: {met}).\n")
+    format!("\nView of {most} records: at worst {worst:.2} times the plain walk (2 is the limit: {met}).\n")
 }

@@ -11,7 +11,8 @@ use crate::record::{CHUNK, LIST_RECORDS, PIECE, RECORD};
 use crate::{texts, tree, walk};
 use rng::Rng;
 
-const SIZES: [usize; 3] = [10, 200, 1_000];
+/// Records of the lists; names and keys are as many.
+pub const SIZES: [usize; 3] = [10, 200, 2_000];
 const BLOCK_SIZE: u32 = 4_194_304;
 const NEW_ID: u64 = 77;
 /// Room for the longest view and for the plans of these lists.

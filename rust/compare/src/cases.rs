@@ -33,7 +33,7 @@ fn with(list: Vec<u8>) -> Vec<Call> {
 fn lists() -> Vec<Call> {
     let empty = |chunk_len| Call::View { list: Vec::new(), chunk_len, out: Room::Right };
     let mut calls = vec![empty(0), empty(5)];
-    for length in [0, 23, 24, 25, 24_576, 24_600, 24_601] {
+    for length in [0, 23, 24, 25, 24_600, 49_152, 49_176, 49_177] {
         calls.extend(with(vec![0; length]));
     }
     for row in
@@ -72,7 +72,7 @@ fn tidied_to_the_limit() -> Vec<Call> {
         let zeros = (0..bytes / 2).map(|i| (2 * i + 1, 0, 0, 0, 1));
         list(&[(0, 7, bytes, 0, bytes)].into_iter().chain(zeros).collect::<Vec<_>>())
     };
-    [1_023, 1_024, 1_025, 2_047].into_iter().flat_map(|bytes| with(comb(bytes))).collect()
+    [2_047, 2_048, 2_049, 4_095].into_iter().flat_map(|bytes| with(comb(bytes))).collect()
 }
 
 fn names() -> Vec<Call> {

@@ -1,23 +1,27 @@
 //! Random lists of several shapes.
 
-use second::limits::CHUNK;
+use second::limits::{CHUNK, LIST_RECORDS, TIDIED_RECORDS};
 use second::Record;
 
 use rng::Rng;
 
+/// The shape with about twice as many runs as records.
+const COMB: u64 = 8;
+
 /// A list that is mostly sound; `mutate::list` spoils some.
 pub fn sound(rng: &mut Rng) -> Vec<u8> {
-    let count = records(rng);
     let shape = rng.below(10);
+    let count = records(rng, shape);
     (0..count).flat_map(|i| record(rng, shape, i, count).to_bytes()).collect()
 }
 
-/// Short lists mostly: they are quick, and what goes wrong shows in few records.
-fn records(rng: &mut Rng) -> u64 {
+/// Short lists mostly: they are quick, and what goes wrong shows in few records. Some are as long
+/// as a list may be, or a little longer; some combs are so once they are tidied.
+fn records(rng: &mut Rng, shape: u64) -> u64 {
     match rng.below(2_000) {
-        0 => 1_000 + rng.below(27),
-        1 => 480 + rng.below(80),
-        2..=60 => rng.below(120),
+        0 => LIST_RECORDS as u64 - 24 + rng.below(27),
+        1..=30 if shape == COMB => TIDIED_RECORDS as u64 / 2 - 32 + rng.below(80),
+        1..=60 => rng.below(120),
         _ => rng.below(11),
     }
 }
@@ -32,7 +36,7 @@ fn record(rng: &mut Rng, shape: u64, i: u64, count: u64) -> Record {
         5 => often_empty(rng),
         6 => at_block_edges(rng),
         7 => nested(rng, i, count),
-        8 => comb(rng, i, count),
+        COMB => comb(rng, i, count),
         _ => {
             let shape = rng.below(7);
             record(rng, shape, i, count)

@@ -17,7 +17,7 @@ use std::fmt;
 pub enum Refusal {
     /// 1: list length is no multiple of 24
     ListLength,
-    /// 2: more than 1,024 records
+    /// 2: more than 2,048 records
     ListRecords,
     /// 3: pos + len above 64 MiB
     RecordEnd {
@@ -47,7 +47,7 @@ pub enum Refusal {
     NewId,
     /// 10: k above the number of records
     FirstRecords,
-    /// 11: tidied list above 1,024 records
+    /// 11: tidied list above 2,048 records
     TidiedRecords,
     /// 12: an output buffer shorter than its answer (either of the two, in compaction)
     Buffer,
@@ -89,7 +89,7 @@ impl Refusal {
     fn sentence(&self) -> &'static str {
         match self {
             Refusal::ListLength => "list length is no multiple of 24",
-            Refusal::ListRecords => "more than 1,024 records",
+            Refusal::ListRecords => "more than 2,048 records",
             Refusal::RecordEnd { .. } => "pos + len above 64 MiB",
             Refusal::SliceSize { .. } => "size above 64 MiB",
             Refusal::ZeroRecord { .. } => "id 0 with size or off other than 0",
@@ -100,7 +100,7 @@ impl Refusal {
                 "new id is 0 or stands in any record of the list, empty ones included"
             }
             Refusal::FirstRecords => "k above the number of records",
-            Refusal::TidiedRecords => "tidied list above 1,024 records",
+            Refusal::TidiedRecords => "tidied list above 2,048 records",
             Refusal::Buffer => {
                 "an output buffer shorter than its answer (either of the two, in compaction)"
             }

@@ -7,9 +7,9 @@ pub const RECORD: usize = 24;
 /// Bytes of a piece of a plan.
 pub const PIECE: usize = 30;
 /// Records that a list may have (refusal 2).
-pub const LIST_RECORDS: usize = 1_024;
+pub const LIST_RECORDS: usize = 2_048;
 /// Records that a tidied list may have (refusal 11).
-pub const TIDIED_RECORDS: usize = 1_024;
+pub const TIDIED_RECORDS: usize = 2_048;
 /// Smallest block size.
 pub const BLOCK_SIZE_MIN: u64 = 65_536;
 /// Largest block size, and so the largest block length in a name.

@@ -35,10 +35,10 @@ fn first_bad_record_and_in_it_the_first_refusal() {
 #[test]
 fn order_of_the_inputs() {
     let plan = |list: &[u8], l, b| read_plan(list, l, b, 0, 1, &mut []);
-    assert_eq!(plan(&[0; 24_601], CHUNK + 1, 0), Err(no(7)));
-    assert_eq!(plan(&[0; 24_601], CHUNK, 0), Err(no(8)));
-    assert_eq!(plan(&[0; 24_601], CHUNK, BLOCK), Err(no(1)));
-    assert_eq!(plan(&[0xff; 24_600], CHUNK, BLOCK), Err(no(2)));
+    assert_eq!(plan(&[0; 49_177], CHUNK + 1, 0), Err(no(7)));
+    assert_eq!(plan(&[0; 49_177], CHUNK, 0), Err(no(8)));
+    assert_eq!(plan(&[0; 49_177], CHUNK, BLOCK), Err(no(1)));
+    assert_eq!(plan(&[0xff; 49_176], CHUNK, BLOCK), Err(no(2)));
     assert_eq!(plan(&[0xff; 24], CHUNK, BLOCK), Err(no_at(3, 0)));
     assert_eq!(plan(&[0; 24], CHUNK, BLOCK), Err(no(12)));
 }
@@ -58,21 +58,23 @@ fn block_sizes() {
     }
 }
 
-/// One slice under 1,023 zeros: a view of 2,047 runs, too many for a tidied list.
+/// A slice under zeros at every second byte: as many runs as the slice has bytes.
 #[test]
 fn tidied_list_may_be_too_long() {
-    let holes = |n: u64| {
-        let mut rows = vec![(0, 7, 4_096, 0, 4_096)];
-        rows.extend((0..n).map(|i| (2 * i + 1, 0, 0, 0, 1)));
+    let comb = |bytes: u64| {
+        let mut rows = vec![(0, 7, bytes, 0, bytes)];
+        rows.extend((0..bytes / 2).map(|i| (2 * i + 1, 0, 0, 0, 1)));
         list(&rows)
     };
-    let mut out = vec![0xee; 50_000];
-    assert_eq!(tidy(&holes(1_023), &mut out), Err(no(11)));
-    assert_eq!(tidy(&holes(1_023), &mut []), Err(no(11)));
+    let mut out = vec![0xee; 100_000];
+    for bytes in [2_049, 4_095] {
+        assert_eq!(tidy(&comb(bytes), &mut out), Err(no(11)));
+        assert_eq!(tidy(&comb(bytes), &mut []), Err(no(11)));
+    }
     assert!(out.iter().all(|byte| *byte == 0xee));
-    assert_eq!(view(&holes(1_023), 4_096, &mut out), Ok(2_047 * 24));
-    assert_eq!(tidy(&holes(512), &mut out), Err(no(11)));
-    assert_eq!(tidy(&holes(511), &mut out), Ok(1_023 * 24));
+    assert_eq!(view(&comb(4_095), 4_095, &mut out), Ok(4_095 * 24));
+    assert_eq!(tidy(&comb(2_048), &mut out), Ok(2_048 * 24));
+    assert_eq!(tidy(&comb(2_047), &mut out), Ok(2_047 * 24));
 }
 
 #[test]

@@ -1,6 +1,6 @@
 //! Lists made to meet a set of refusals.
 
-use second::limits::{CHUNK, LIST_RECORDS, RECORD};
+use second::limits::{CHUNK, LIST_RECORDS, RECORD, TIDIED_RECORDS};
 use second::Record;
 
 use super::Faults;
@@ -20,9 +20,7 @@ pub fn faulty_list(faults: Faults, variant: usize) -> (Vec<u8>, u64) {
     }
     let mut list: Vec<u8> = records.iter().flat_map(Record::to_bytes).collect();
     if faults.has(2) {
-        list.resize(list.len().max((LIST_RECORDS + 1) * RECORD), 0);
-    } else {
-        list.truncate(LIST_RECORDS * RECORD);
+        list.resize((LIST_RECORDS + 1) * RECORD, 0);
     }
     if faults.has(1) {
         let odd = [1, 23, 12][variant];
@@ -39,10 +37,12 @@ fn sound() -> Vec<Record> {
     ]
 }
 
-/// 1,024 records with a tidied list of 2,047.
+/// A slice under zeros at every second byte, tidied to a few records too many. The list itself is
+/// half as long, so that bad records can be put into it.
 fn many_runs() -> Vec<Record> {
-    let mut records = vec![Record::new(0, FIRST_ID, 4_096, 0, 4_096)];
-    records.extend((0..1_023).map(|i| Record::new(2 * i + 1, 0, 0, 0, 1)));
+    let bytes = TIDIED_RECORDS as u64 + 9;
+    let mut records = vec![Record::new(0, FIRST_ID, bytes, 0, bytes)];
+    records.extend((0..bytes / 2).map(|i| Record::new(2 * i + 1, 0, 0, 0, 1)));
     records
 }
 

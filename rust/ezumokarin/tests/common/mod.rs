@@ -1,4 +1,5 @@
 //! Lists and plans as the requirements print them.
+#![allow(dead_code)]
 
 use ezumokarin::{pieces, Location, Piece, Record};
 
