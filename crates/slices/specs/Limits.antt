@@ -1,4 +1,4 @@
--- The lengths and limits of paper 01, each in this one place. Assumes nothing.
+-- The lengths and limits of lists and chunks, each in this one place: paper 01, and paper 02 (L6) for the number of records. Assumes nothing.
 use Prim.Native.Nat.{ℕ}
 
 -- a record is 24 bytes
