@@ -59,7 +59,7 @@ static size_t list_of(uint8_t *list, const record *records, size_t count)
 static void lengths(void)
 {
     static const uint8_t zeros[LIST_MAX];
-    const size_t lens[] = {0, 23, 24, 25, 24600, 49152, 49176, 49177};
+    const size_t lens[] = {0, 23, 24, 25, 24576, 24600, 49152, 49176, 49177};
     seed(VIEW, AS_IS, WITH(0), zeros, 0);
     seed(VIEW, AS_IS, WITH(5), zeros, 0);
     for (size_t i = 0; i < sizeof lens / sizeof *lens; i++)

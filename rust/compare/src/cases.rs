@@ -33,7 +33,7 @@ fn with(list: Vec<u8>) -> Vec<Call> {
 fn lists() -> Vec<Call> {
     let empty = |chunk_len| Call::View { list: Vec::new(), chunk_len, out: Room::Right };
     let mut calls = vec![empty(0), empty(5)];
-    for length in [0, 23, 24, 25, 24_600, 49_152, 49_176, 49_177] {
+    for length in [0, 23, 24, 25, 24_576, 24_600, 49_152, 49_176, 49_177] {
         calls.extend(with(vec![0; length]));
     }
     for row in

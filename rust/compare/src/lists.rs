@@ -19,9 +19,9 @@ pub fn sound(rng: &mut Rng) -> Vec<u8> {
 /// as a list may be, or a little longer; some combs are so once they are tidied.
 fn records(rng: &mut Rng, shape: u64) -> u64 {
     match rng.below(2_000) {
-        0 => LIST_RECORDS as u64 - 24 + rng.below(27),
-        1..=30 if shape == COMB => TIDIED_RECORDS as u64 / 2 - 32 + rng.below(80),
-        1..=60 => rng.below(120),
+        0..=4 => LIST_RECORDS as u64 - 8 + rng.below(17),
+        5..=40 if shape == COMB => TIDIED_RECORDS as u64 / 2 - 32 + rng.below(80),
+        5..=60 => rng.below(120),
         _ => rng.below(11),
     }
 }

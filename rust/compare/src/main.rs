@@ -41,6 +41,9 @@ fn main() {
     combinations::run(&mut tally);
     null::run(&mut tally);
     random::run(&mut tally, seed, calls);
+    if calls >= CALLS {
+        random::reach(&mut tally);
+    }
     print!("{tally}");
     exit(if tally.differences() == 0 { 0 } else { 1 });
 }

@@ -5,12 +5,21 @@ use crate::tally::Tally;
 use crate::{lists, mutate, numbers, texts};
 use rng::Rng;
 
+const ORIGIN: &str = "random";
+
 /// Compares random calls until `calls` calls have been compared in all.
 pub fn run(tally: &mut Tally, seed: u64, calls: u64) {
     let mut rng = Rng::new(seed);
     while tally.compared() < calls {
         let call = any_call(&mut rng);
-        tally.compare("random", &call);
+        tally.compare(ORIGIN, &call);
+    }
+}
+
+/// Random calls must meet every refusal that the chosen calls do; else they are too tame.
+pub fn reach(tally: &mut Tally) {
+    for (call, number) in tally.missed(ORIGIN) {
+        tally.difference("random calls", &format!("none is a {call} that gives {number}"));
     }
 }
 

@@ -1,6 +1,6 @@
-//! Counts of what was compared, per call and per refusal, and the differences.
+//! Counts of what was compared, per origin, call and refusal, and the differences.
 
-use std::collections::BTreeMap;
+use std::collections::{BTreeMap, BTreeSet};
 use std::fmt;
 
 use crate::binding::BINDINGS;
@@ -14,8 +14,8 @@ const SHOWN: u64 = 10;
 
 #[derive(Default)]
 pub struct Tally {
-    calls: BTreeMap<&'static str, [u64; REFUSALS]>,
-    origins: BTreeMap<&'static str, u64>,
+    /// By origin, and there by call.
+    origins: BTreeMap<&'static str, BTreeMap<&'static str, [u64; REFUSALS]>>,
     compared: u64,
     differences: u64,
 }
@@ -39,8 +39,22 @@ impl Tally {
 
     pub fn count(&mut self, origin: &'static str, call: &'static str, refusal: u64) {
         self.compared += 1;
-        *self.origins.entry(origin).or_default() += 1;
-        self.calls.entry(call).or_default()[refusal as usize] += 1;
+        let calls = self.origins.entry(origin).or_default();
+        calls.entry(call).or_default()[refusal as usize] += 1;
+    }
+
+    /// What calls of other origins met and none of this one did: the call, and its refusal or 0.
+    pub fn missed(&self, origin: &str) -> Vec<(&'static str, usize)> {
+        let met = |(call, counts): (&&'static str, &[u64; REFUSALS])| {
+            let (call, counts) = (*call, *counts);
+            (0..REFUSALS)
+                .filter(move |number| counts[*number] > 0)
+                .map(move |number| (call, number))
+        };
+        let here = self.origins.get(origin).into_iter().flatten();
+        let here: BTreeSet<_> = here.flat_map(met).collect();
+        let all: BTreeSet<_> = self.origins.values().flatten().flat_map(met).collect();
+        all.difference(&here).copied().collect()
     }
 
     pub fn difference(&mut self, call: &str, what: &str) {
@@ -61,20 +75,19 @@ impl Tally {
 
 impl fmt::Display for Tally {
     fn fmt(&self, f: &mut fmt::Formatter<'_>) -> fmt::Result {
-        write!(f, "{:18}{:>10}", "call", "answered")?;
-        for number in 1..REFUSALS {
-            write!(f, "{number:>9}")?;
-        }
-        writeln!(f)?;
-        for (name, counts) in &self.calls {
-            write!(f, "{name:18}{:>10}", counts[0])?;
-            for count in &counts[1..] {
-                write!(f, "{count:>9}")?;
+        for (origin, calls) in &self.origins {
+            write!(f, "{origin:26}{:>10}", "answered")?;
+            for number in 1..REFUSALS {
+                write!(f, "{number:>9}")?;
             }
             writeln!(f)?;
-        }
-        for (origin, count) in &self.origins {
-            writeln!(f, "{count} calls from: {origin}")?;
+            for (name, counts) in calls {
+                write!(f, "  {name:24}{:>10}", counts[0])?;
+                for count in &counts[1..] {
+                    write!(f, "{count:>9}")?;
+                }
+                writeln!(f)?;
+            }
         }
         let bindings: Vec<&str> = BINDINGS.iter().map(|binding| binding.name).collect();
         writeln!(f, "each made through: {}", bindings.join(", "))?;

@@ -44,6 +44,7 @@ fn read_of_two_pieces() {
 #[test]
 fn lengths_of_lists() {
     assert_eq!(check(&[]), Ok(0));
+    assert_eq!(check(&[0; 24_576]), Ok(1_024));
     assert_eq!(check(&[0; 24_600]), Ok(1_025));
     assert_eq!(check(&[0; 49_152]), Ok(2_048));
     assert_eq!(check(&[0; 49_176]), Err(Refusal::ListRecords));

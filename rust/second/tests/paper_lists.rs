@@ -31,6 +31,7 @@ fn bytes_must_make_whole_records() {
 
 #[test]
 fn at_most_2048_records() {
+    assert_eq!(check(&[0; 24_576]), Ok(1_024));
     assert_eq!(check(&[0; 24_600]), Ok(1_025));
     assert_eq!(check(&[0; 49_152]), Ok(2_048));
     assert_eq!(check(&[0; 49_176]), Err(no(2)));

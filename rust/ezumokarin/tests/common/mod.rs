@@ -1,5 +1,4 @@
 //! Lists and plans as the requirements print them.
-#![allow(dead_code)]
 
 use ezumokarin::{pieces, Location, Piece, Record};
 
