@@ -5,6 +5,7 @@ use second::limits::CHUNK;
 use second::Record;
 
 use crate::call::{Call, Room};
+use crate::lists::combed;
 
 const MIB: u64 = 1_048_576;
 const BLOCK: u64 = 4_194_304;
@@ -66,12 +67,9 @@ fn list_of_000() -> Vec<Call> {
     calls
 }
 
-/// A slice under zeros at every second byte: as many runs as the slice has bytes.
+/// The last is the longest list that is allowed.
 fn tidied_to_the_limit() -> Vec<Call> {
-    let comb = |bytes: u64| {
-        let zeros = (0..bytes / 2).map(|i| (2 * i + 1, 0, 0, 0, 1));
-        list(&[(0, 7, bytes, 0, bytes)].into_iter().chain(zeros).collect::<Vec<_>>())
-    };
+    let comb = |bytes| combed(7, bytes).iter().flat_map(Record::to_bytes).collect();
     [2_047, 2_048, 2_049, 4_095].into_iter().flat_map(|bytes| with(comb(bytes))).collect()
 }
 

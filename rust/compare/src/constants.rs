@@ -6,6 +6,7 @@ use std::ffi::{c_char, CStr};
 use second::limits::{CHUNK, LIST_RECORDS, PIECE, RECORD, TIDIED_RECORDS, TKV_KEY};
 use second::{Record, Refusal};
 
+use crate::lists::combed;
 use crate::tally::Tally;
 
 const BLOCK: u64 = 65_536;
@@ -81,14 +82,9 @@ fn of_calls() -> Vec<(&'static str, u64)> {
     ]
 }
 
-/// A slice under zeros at every second byte, tidied to one record too many.
+/// A list that is tidied to one record too many.
 fn comb() -> Vec<u8> {
-    let bytes = TIDIED_RECORDS as u64 + 1;
-    let mut list = Record::new(0, 7, bytes, 0, bytes).to_bytes().to_vec();
-    for i in 0..bytes / 2 {
-        list.extend(Record::new(2 * i + 1, 0, 0, 0, 1).to_bytes());
-    }
-    list
+    combed(7, TIDIED_RECORDS as u64 + 1).iter().flat_map(Record::to_bytes).collect()
 }
 
 /// 0 for an answer.

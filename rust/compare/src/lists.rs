@@ -1,5 +1,7 @@
 //! Random lists of several shapes.
 
+use std::iter;
+
 use second::limits::{CHUNK, LIST_RECORDS, TIDIED_RECORDS};
 use second::Record;
 
@@ -13,6 +15,12 @@ pub fn sound(rng: &mut Rng) -> Vec<u8> {
     let shape = rng.below(10);
     let count = records(rng, shape);
     (0..count).flat_map(|i| record(rng, shape, i, count).to_bytes()).collect()
+}
+
+/// A slice under zeros at every second byte: as many runs as the slice has bytes.
+pub fn combed(id: u64, bytes: u64) -> Vec<Record> {
+    let zeros = (0..bytes / 2).map(|i| Record::new(2 * i + 1, 0, 0, 0, 1));
+    iter::once(Record::new(0, id, bytes, 0, bytes)).chain(zeros).collect()
 }
 
 /// Short lists mostly: they are quick, and what goes wrong shows in few records. Some are as long

@@ -4,6 +4,7 @@ use second::limits::{CHUNK, LIST_RECORDS, RECORD, TIDIED_RECORDS};
 use second::Record;
 
 use super::Faults;
+use crate::lists::combed;
 
 /// How the bad records stand: rising, falling, or several faults in one record.
 pub const VARIANTS: usize = 3;
@@ -37,13 +38,10 @@ fn sound() -> Vec<Record> {
     ]
 }
 
-/// A slice under zeros at every second byte, tidied to a few records too many. The list itself is
-/// half as long, so that bad records can be put into it.
+/// Tidied to a few records too many. The list itself is half as long, so that bad records can be
+/// put into it.
 fn many_runs() -> Vec<Record> {
-    let bytes = TIDIED_RECORDS as u64 + 9;
-    let mut records = vec![Record::new(0, FIRST_ID, bytes, 0, bytes)];
-    records.extend((0..bytes / 2).map(|i| Record::new(2 * i + 1, 0, 0, 0, 1)));
-    records
+    combed(FIRST_ID, TIDIED_RECORDS as u64 + 9)
 }
 
 /// Bad records with the refusal that each meets first.
