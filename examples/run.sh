@@ -49,6 +49,9 @@ example() {
 }
 example view "$work/expected"
 example compact "$work/compacted"
+# The lines that the page shows, by hand from the requirements.
+sed -n 's/^    //p' "$here/../docs/VIEW-AGAIN.md" > "$work/again_expected"
+example again "$work/again_expected"
 
 # Python needs a shared library; without one in the folder it is made from the archive.
 shared=$dist/libezumokarin.so

@@ -3,6 +3,7 @@
 
 #include <string.h>
 
+/* Of a run of a view: as a record of a list it is zeros. */
 static int uncovered(record r)
 {
     return r.id == 0 && r.size != 0;
@@ -19,6 +20,19 @@ static int one_run(record a, record b)
 void check_law(const call *call, const answer *a)
 {
     must(call, a->value[0] == call->len / EZK_RECORD, "check counts other records");
+}
+
+/* As a list, a view is accepted unless it is too long; its own view has no holes. */
+static void again_law(const call *call, const answer *a)
+{
+    struct call again = other(call, VIEW, a->written[0], a->value[0]);
+    again.number[0] = call->number[0];
+    answer view = make_ample(&again);
+    int too_long = a->value[0] / EZK_RECORD > LIST_RECORDS;
+    must(call, view.refusal == (too_long ? EZK_LIST_RECORDS : 0), "the view is no list");
+    for (size_t i = 0; i < view.value[0] / EZK_RECORD; i++)
+        must(call, !uncovered(record_at(view.written[0], i)), "a hole that is still open");
+    done_with(&view);
 }
 
 void view_law(const call *call, const answer *a)
@@ -38,6 +52,7 @@ void view_law(const call *call, const answer *a)
         pos += r.len;
     }
     must(call, pos == call->number[0], "the runs do not end with the chunk");
+    again_law(call, a);
 
     struct call tidying = other(call, TIDY, call->bytes, call->len);
     answer tidied = make_ample(&tidying);

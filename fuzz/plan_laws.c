@@ -72,6 +72,14 @@ void plan_law(const call *call, const answer *a)
         place += p.len;
     }
     must(call, place == left, "the pieces do not end with the read");
+
+    /* As a list, the view is read by the same plan. */
+    struct call again = other(call, READ_PLAN, view.written[0], view.value[0]);
+    memcpy(again.number, call->number, sizeof again.number);
+    answer plan = make_ample(&again);
+    must(call, plan.refusal == EZK_LIST_RECORDS || same(&plan, a->written[0], a->value[0]),
+         "the view is read in another way than its list");
+    done_with(&plan);
     done_with(&view);
 }
 

@@ -18,7 +18,7 @@ static uint64_t record_refusal(record r)
     if (r.size > EZK_CHUNK)
         return EZK_SLICE_SIZE;
     if (r.id == 0)
-        return r.size || r.off ? EZK_ZERO_RECORD : 0;
+        return r.off || (r.size && r.size != r.len) ? EZK_ZERO_RECORD : 0;
     return r.off + r.len > r.size ? EZK_SLICE_END : 0;
 }
 

@@ -72,8 +72,10 @@ static void single_records(void)
         {67108863, 0, 0, 0, 1},
         {67108863, 0, 0, 0, 2},      /* 3 */
         {0, 7, EZK_CHUNK + 1, 0, 1}, /* 4 */
-        {0, 0, 1, 0, 1},             /* 5 */
-        {0, 0, 0, 1, 1},             /* 5 */
+        {0, 0, 8, 0, 8},
+        {0, 0, 1, 0, 8}, /* 5 */
+        {0, 0, 8, 1, 8}, /* 5 */
+        {0, 0, 0, 1, 1}, /* 5 */
         {0, 7, 10, 4, 6},
         {0, 7, 10, 4, 7}, /* 6 */
         {0, 3, 5 * MIB, 0, 5 * MIB},
@@ -87,6 +89,7 @@ static void single_records(void)
 static void small_lists(void)
 {
     const record hidden[] = {{0, 7, 20, 0, 20}, {4, 0, 0, 0, 8}};
+    const record sized[] = {{0, 7, 20, 0, 20}, {4, 0, 8, 0, 8}};
     const record three[] = {{10 * MIB, 10, 30 * MIB, 0, 30 * MIB},
                             {20 * MIB, 11, 16 * MIB, 0, 16 * MIB},
                             {16 * MIB, 12, 10 * MIB, 0, 10 * MIB}};
@@ -94,6 +97,7 @@ static void small_lists(void)
     const record sizes[] = {{0, 11, 40 * MIB, 0, 40 * MIB}, {0, 11, 16 * MIB, 0, 160}};
     uint8_t list[3 * EZK_RECORD];
     list_seeds(AS_IS, list, list_of(list, sizes, 2));
+    list_seeds(AS_IS, list, list_of(list, sized, 2));
     for (unsigned shape = AS_IS; shape < 256; shape += shape < MANY ? 1 : 7 * SHAPES)
         list_seeds(shape, list, list_of(list, hidden, 2));
     for (unsigned records = 28; records < 36; records++) /* times 32 */

@@ -20,7 +20,8 @@ static record sound(record r, enum shape shape, size_t turn)
     if (shape != SOUND)
         r.id %= IDS;
     if (r.id == 0) {
-        r.size = r.off = 0;
+        r.size = r.size % 2 ? r.len : 0;
+        r.off = 0;
     } else {
         r.off %= end - r.len + 1;
         r.size = r.off + r.len + r.size % (end - r.off - r.len + 1);

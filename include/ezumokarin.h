@@ -19,7 +19,7 @@
  *   EZK_LIST_RECORDS    2  more than 2,048 records
  *   EZK_RECORD_END      3  pos + len above 64 MiB
  *   EZK_SLICE_SIZE      4  size above 64 MiB
- *   EZK_ZERO_RECORD     5  id 0 with size or off other than 0
+ *   EZK_ZERO_RECORD     5  id 0 with off not 0, or with a size that is neither 0 nor len
  *   EZK_SLICE_END       6  id not 0 and off + len above size
  *   EZK_CHUNK_LENGTH    7  chunk length above 64 MiB
  *   EZK_BLOCK_SIZE      8  block size not allowed
@@ -68,9 +68,9 @@ enum {
 
 /*
  * A slice record has 24 bytes, big-endian: pos (4), id (8), size (4), off (4), len (4).
- * It covers positions pos up to, but without, pos + len. Id 0 is zeros, with size and off
- * 0; any other id is slice bytes from slice offset off on, of a slice of size bytes.
- * Records stand in order of writing; a later one wins.
+ * It covers positions pos up to, but without, pos + len. Id 0 is zeros, with off 0 and a
+ * size of 0 or len; any other id is slice bytes from slice offset off on, of a slice of size
+ * bytes. Records stand in order of writing; a later one wins.
  *
  * Slices are stored in blocks, and one block size B holds for a whole volume. Slice offset o
  * lies in block o / B at place o % B. Block i of a slice of size bytes has min(B, size - i * B)
@@ -130,6 +130,11 @@ ezk_answer ezk_check(const uint8_t *list, size_t list_len);
  * gaps, each as a record. Uncovered bytes have id 0, size = len, off 0; zeros have id 0,
  * size 0, off 0; slice bytes have their id and size and the first slice offset. A list of
  * n records has a view of at most 2n + 1 records.
+ *
+ * A view may be passed as a list: it is accepted, or refused with 2, and reads alike up to
+ * chunk_len. But its uncovered bytes have become zeros, and hide what they are laid over. A
+ * list that leaves them uncovered is the tidied one.
+ *
  * Refusals, in order: 7, 1, 2, 3 to 6, 12.
  */
 ezk_answer ezk_view(const uint8_t *list, size_t list_len, uint64_t chunk_len,

@@ -17,7 +17,7 @@ pastChunk = 3
 abbrev pub tooLarge : ℕ
 tooLarge = 4
 
--- id 0 with size or off other than 0
+-- id 0 with off not 0, or with a size that is neither 0 nor len
 abbrev pub zerosWithSlice : ℕ
 zerosWithSlice = 5
 

@@ -8,3 +8,4 @@ pub mod Fits
 pub mod Bytes
 pub mod Reads
 pub mod Answered
+pub mod Again

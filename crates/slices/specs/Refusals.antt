@@ -31,9 +31,9 @@ pastChunk r = ltb chunk (r .pos + r .len)
 unfoldable pub tooLarge : Record → Bool
 tooLarge r = ltb chunk (r .size)
 
--- 5: id 0 with size or off other than 0
+-- 5: id 0 with off not 0, or with a size that is neither 0 nor len
 unfoldable pub zerosWithSlice : Record → Bool
-zerosWithSlice r = eqb (r .id) 0 && (not (eqb (r .size) 0) || not (eqb (r .off) 0))
+zerosWithSlice r = eqb (r .id) 0 && (not (eqb (r .off) 0) || (not (eqb (r .size) 0) && not (eqb (r .size) (r .len))))
 
 -- 6: id not 0 and off + len above size
 unfoldable pub pastSlice : Record → Bool

@@ -22,10 +22,13 @@ fn check_record(r: Record) -> u8
         return refusals::TOO_LARGE;
     }
     if r.id == 0 {
-        if r.size != 0 {
+        if r.off != 0 {
             return refusals::ZEROS_WITH_SLICE;
         }
-        if r.off != 0 {
+        if r.size == 0 {
+            return 0;
+        }
+        if r.size != r.len {
             return refusals::ZEROS_WITH_SLICE;
         }
         return 0;

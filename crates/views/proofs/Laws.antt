@@ -2,9 +2,11 @@
 pub mod Next
 pub mod Count
 pub mod ViewSource
+pub mod ViewFrom
 pub mod Fits
+pub mod RunCover
 pub mod Tidied
 pub mod Steps
-pub mod ViewFrom
 pub mod Calls
 pub mod ViewBack
+pub mod Again

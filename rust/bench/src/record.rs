@@ -128,6 +128,6 @@ pub fn checked(list: &[u8]) -> Option<&[RecordBytes]> {
 fn sound(r: &Record) -> bool {
     u64::from(r.pos) + u64::from(r.len) <= u64::from(CHUNK)
         && r.size <= CHUNK
-        && (r.id != 0 || r.size == 0 && r.off == 0)
+        && (r.id != 0 || r.off == 0 && (r.size == 0 || r.size == r.len))
         && (r.id == 0 || u64::from(r.off) + u64::from(r.len) <= u64::from(r.size))
 }

@@ -18,7 +18,7 @@ fn record(rng: &mut Rng) -> Record {
     let len = rng.below(30) as u32;
     let (id, size) = (rng.below(3), 131_072 + rng.below(2) as u32);
     if id == 0 {
-        return Record { pos, id, size: 0, off: 0, len };
+        return Record { pos, id, size: rng.pick(&[0, len]), off: 0, len };
     }
     // Slice 1 lies at its own offsets, so that its parts join again.
     let off = if id == 1 { pos } else { rng.below(70_000) as u32 };

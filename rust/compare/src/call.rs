@@ -40,6 +40,18 @@ pub enum Call {
 }
 
 impl Call {
+    /// The list of a call that takes one.
+    pub fn list(&self) -> Option<&[u8]> {
+        match self {
+            Call::Check { list }
+            | Call::View { list, .. }
+            | Call::Tidy { list, .. }
+            | Call::ReadPlan { list, .. }
+            | Call::Compact { list, .. } => Some(list),
+            _ => None,
+        }
+    }
+
     pub fn name(&self) -> &'static str {
         match self {
             Call::Check { .. } => "check",

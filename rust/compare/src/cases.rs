@@ -11,7 +11,8 @@ const MIB: u64 = 1_048_576;
 const BLOCK: u64 = 4_194_304;
 
 pub fn all() -> Vec<Call> {
-    [lists(), list_of_000(), tidied_to_the_limit(), names(), keys()].concat()
+    [lists(), zero_records(), list_of_000(), tidied_to_the_limit(), fed_back(), names(), keys()]
+        .concat()
 }
 
 fn list(rows: &[(u64, u64, u64, u64, u64)]) -> Vec<u8> {
@@ -47,16 +48,38 @@ fn lists() -> Vec<Call> {
     calls
 }
 
-fn list_of_000() -> Vec<Call> {
-    let rows = [
+/// Sizes and offsets of a record of zeros, alone and over a slice.
+fn zero_records() -> Vec<Call> {
+    let mut calls = Vec::new();
+    for (size, off) in [(0, 0), (8, 0), (1, 0), (7, 0), (9, 0), (8, 1), (0, 1), (CHUNK + 1, 0)] {
+        let zeros = (4, 0, size, off, 8);
+        calls.extend(with(list(&[zeros])));
+        calls.extend(with(list(&[(0, 7, 20, 0, 20), zeros])));
+    }
+    calls
+}
+
+/// Views as lists; the last has one record too many.
+fn fed_back() -> Vec<Call> {
+    let view = |list: &[u8]| second::view_bytes(list, CHUNK).expect("a view");
+    let views = [view(&[]), view(&three()), view(&comb(2_047)), view(&comb(2_048))];
+    views.into_iter().flat_map(with).collect()
+}
+
+/// The list of 000.
+fn three() -> Vec<u8> {
+    list(&[
         (10 * MIB, 10, 30 * MIB, 0, 30 * MIB),
         (20 * MIB, 11, 16 * MIB, 0, 16 * MIB),
         (16 * MIB, 12, 10 * MIB, 0, 10 * MIB),
-    ];
-    let mut calls = with(list(&rows));
+    ])
+}
+
+fn list_of_000() -> Vec<Call> {
+    let mut calls = with(three());
     for (start, count) in [(15_728_640, 2_097_152), (10 * MIB, 8 * MIB)] {
         calls.push(Call::ReadPlan {
-            list: list(&rows),
+            list: three(),
             chunk_len: CHUNK,
             block_size: BLOCK,
             start,
@@ -69,8 +92,11 @@ fn list_of_000() -> Vec<Call> {
 
 /// The last is the longest list that is allowed.
 fn tidied_to_the_limit() -> Vec<Call> {
-    let comb = |bytes| combed(7, bytes).iter().flat_map(Record::to_bytes).collect();
     [2_047, 2_048, 2_049, 4_095].into_iter().flat_map(|bytes| with(comb(bytes))).collect()
+}
+
+fn comb(bytes: u64) -> Vec<u8> {
+    combed(7, bytes).iter().flat_map(Record::to_bytes).collect()
 }
 
 fn names() -> Vec<Call> {

@@ -65,7 +65,7 @@ fn of_lists() -> Vec<(&'static str, u64)> {
         ("EZK_LIST_RECORDS", number(second::check(&[0; (LIST_RECORDS + 1) * RECORD]))),
         ("EZK_RECORD_END", one(CHUNK, 0, 0, 0, 1)),
         ("EZK_SLICE_SIZE", one(0, 7, CHUNK + 1, 0, 1)),
-        ("EZK_ZERO_RECORD", one(0, 0, 1, 0, 1)),
+        ("EZK_ZERO_RECORD", one(0, 0, 1, 0, 8)),
         ("EZK_SLICE_END", one(0, 7, 10, 4, 7)),
     ]
 }

@@ -2,9 +2,10 @@
 
 use std::iter;
 
-use second::limits::{CHUNK, LIST_RECORDS, TIDIED_RECORDS};
+use second::limits::{CHUNK, LIST_RECORDS, RECORD, TIDIED_RECORDS};
 use second::Record;
 
+use crate::numbers;
 use rng::Rng;
 
 /// The shape with about twice as many runs as records.
@@ -14,7 +15,27 @@ const COMB: u64 = 8;
 pub fn sound(rng: &mut Rng) -> Vec<u8> {
     let shape = rng.below(10);
     let count = records(rng, shape);
-    (0..count).flat_map(|i| record(rng, shape, i, count).to_bytes()).collect()
+    let list = (0..count).flat_map(|i| record(rng, shape, i, count).to_bytes()).collect();
+    if rng.once_in(8) {
+        return fed_back(rng, list);
+    }
+    list
+}
+
+/// A view of the list in its place. Without a view the list stays.
+fn fed_back(rng: &mut Rng, list: Vec<u8>) -> Vec<u8> {
+    second::view_bytes(&list, numbers::chunk_len(rng)).unwrap_or(list)
+}
+
+/// Whether a record of the list has id 0 and its length as size, which is not 0.
+pub fn has_sized_zeros(list: &[u8]) -> bool {
+    let mut records = list.chunks_exact(RECORD).map(Record::from_bytes);
+    records.any(|record| record.id == 0 && record.size != 0 && record.size == record.len)
+}
+
+/// Zeros have size 0 or, like the holes of a view, their length.
+fn zeros(rng: &mut Rng, pos: u64, len: u64) -> Record {
+    Record::new(pos, 0, rng.pick(&[0, len]), 0, len)
 }
 
 /// A slice under zeros at every second byte: as many runs as the slice has bytes.
@@ -61,7 +82,7 @@ fn some_id(rng: &mut Rng) -> u64 {
 fn dense(rng: &mut Rng) -> Record {
     let (pos, len) = (rng.below(64), rng.below(20));
     if rng.once_in(4) {
-        return Record::new(pos, 0, 0, 0, len);
+        return zeros(rng, pos, len);
     }
     Record::new(pos, some_id(rng), 100, rng.below(80), len)
 }
@@ -71,7 +92,7 @@ fn sparse(rng: &mut Rng) -> Record {
     let pos = rng.below(CHUNK);
     let len = rng.below(CHUNK - pos + 1) >> rng.below(26);
     if rng.once_in(5) {
-        return Record::new(pos, 0, 0, 0, len);
+        return zeros(rng, pos, len);
     }
     let size = len + rng.below(CHUNK - len + 1);
     Record::new(pos, some_id(rng), size, rng.below(size - len + 1), len)
@@ -81,7 +102,7 @@ fn sparse(rng: &mut Rng) -> Record {
 fn rejoined(rng: &mut Rng) -> Record {
     let (pos, len) = (rng.below(100), rng.below(40));
     match rng.below(5) {
-        0 => Record::new(pos, 0, 0, 0, len),
+        0 => zeros(rng, pos, len),
         1 => Record::new(pos, 2, 1_000, pos + 7, len),
         _ => Record::new(pos, 1, 1_000, pos, len),
     }
@@ -102,7 +123,7 @@ fn zeros_beside_holes(rng: &mut Rng) -> Record {
     if rng.once_in(4) {
         return Record::new(pos, 5, 200, pos, len);
     }
-    Record::new(pos, 0, 0, 0, len)
+    zeros(rng, pos, len)
 }
 
 /// Records of length 0 at every kind of place, some at the chunk's end.
@@ -123,7 +144,7 @@ fn at_block_edges(rng: &mut Rng) -> Record {
     let pos = near_edge(rng).min(CHUNK);
     let len = rng.pick(&[1, 2, 65_535, 65_536, 65_537, 200_000]).min(CHUNK - pos);
     if rng.once_in(6) {
-        return Record::new(pos, 0, 0, 0, len);
+        return zeros(rng, pos, len);
     }
     let off = near_edge(rng).min(CHUNK - len);
     let size = (off + len + rng.pick(&[0, 1, 65_535, 65_536])).min(CHUNK);
@@ -140,7 +161,7 @@ fn near_edge(rng: &mut Rng) -> u64 {
 fn nested(rng: &mut Rng, i: u64, count: u64) -> Record {
     let len = 3 * (count - i);
     if rng.once_in(5) {
-        return Record::new(i, 0, 0, 0, len);
+        return zeros(rng, i, len);
     }
     Record::new(i, 1 + i % 3, 10_000, 2 * i, len)
 }
@@ -154,5 +175,5 @@ fn comb(rng: &mut Rng, i: u64, count: u64) -> Record {
     if rng.once_in(50) {
         return Record::new(2 * i - 1, 1, CHUNK, 2 * i - 1, 1);
     }
-    Record::new(2 * i - 1, 0, 0, 0, 1)
+    zeros(rng, 2 * i - 1, 1)
 }

@@ -1,13 +1,14 @@
 //! Small changes that spoil a sound list or a sound text.
 
 use second::limits::{CHUNK, RECORD};
+use second::Record;
 
 use rng::Rng;
 
 /// Changes a list in one way, or leaves it as it is.
 pub fn list(rng: &mut Rng, list: &mut Vec<u8>) {
     match rng.below(24) {
-        0 => field(rng, list),
+        0 => one_record(rng, list, field),
         1 => byte(rng, list),
         2 => list.truncate(rng.below(list.len() as u64 + 1) as usize),
         3 => {
@@ -18,26 +19,40 @@ pub fn list(rng: &mut Rng, list: &mut Vec<u8>) {
             let length = rng.below(200);
             *list = rng.bytes(length);
         }
+        5 => one_record(rng, list, zero_record),
         _ => {}
     }
 }
 
-/// Sets one field of one record to a number at an edge.
-fn field(rng: &mut Rng, list: &mut [u8]) {
+/// Changes one of the whole records, if there is any.
+fn one_record(rng: &mut Rng, list: &mut [u8], change: fn(&mut Rng, &mut [u8])) {
     let records = (list.len() / RECORD) as u64;
-    if records == 0 {
-        return;
+    if records > 0 {
+        let at = rng.below(records) as usize * RECORD;
+        change(rng, &mut list[at..at + RECORD]);
     }
-    let record = rng.below(records) as usize * RECORD;
+}
+
+/// Sets one field of a record to a number at an edge.
+fn field(rng: &mut Rng, record: &mut [u8]) {
     if rng.once_in(5) {
         let id = rng.pick(&[0, 1, u64::MAX]);
-        list[record + 4..record + 12].copy_from_slice(&id.to_be_bytes());
+        record[4..12].copy_from_slice(&id.to_be_bytes());
         return;
     }
     let chunk = CHUNK as u32;
     let edges = [0, 1, chunk - 1, chunk, chunk + 1, 1 << 31, u32::MAX - 1, u32::MAX];
-    let at = record + rng.pick(&[0, 12, 16, 20]);
-    list[at..at + 4].copy_from_slice(&rng.pick(&edges).to_be_bytes());
+    let at = rng.pick(&[0, 12, 16, 20]);
+    record[at..at + 4].copy_from_slice(&rng.pick(&edges).to_be_bytes());
+}
+
+/// Makes a record a zero record with a size at an edge, and now and then with an offset.
+fn zero_record(rng: &mut Rng, record: &mut [u8]) {
+    let len = Record::from_bytes(record).len;
+    let size = rng.pick(&[len, len + 1, len.saturating_sub(1), 2 * len, 1, 0]) as u32;
+    record[4..12].fill(0);
+    record[12..16].copy_from_slice(&size.to_be_bytes());
+    record[16..20].copy_from_slice(&rng.pick(&[0_u32, 0, 0, 1]).to_be_bytes());
 }
 
 fn byte(rng: &mut Rng, bytes: &mut [u8]) {

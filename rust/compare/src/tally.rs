@@ -14,7 +14,7 @@ const SHOWN: u64 = 10;
 
 #[derive(Default)]
 pub struct Tally {
-    /// By origin, and there by call.
+    /// By origin or another mark, and there by call.
     origins: BTreeMap<&'static str, BTreeMap<&'static str, [u64; REFUSALS]>>,
     compared: u64,
     differences: u64,
@@ -39,8 +39,18 @@ impl Tally {
 
     pub fn count(&mut self, origin: &'static str, call: &'static str, refusal: u64) {
         self.compared += 1;
-        let calls = self.origins.entry(origin).or_default();
+        self.mark(origin, call, refusal);
+    }
+
+    /// Counts a call that was compared already in one more table.
+    pub fn mark(&mut self, table: &'static str, call: &'static str, refusal: u64) {
+        let calls = self.origins.entry(table).or_default();
         calls.entry(call).or_default()[refusal as usize] += 1;
+    }
+
+    pub fn answered(&self, table: &str, call: &str) -> u64 {
+        let counts = self.origins.get(table).and_then(|calls| calls.get(call));
+        counts.map_or(0, |counts| counts[0])
     }
 
     /// What calls of other origins met and none of this one did: the call, and its refusal or 0.

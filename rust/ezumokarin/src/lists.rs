@@ -33,6 +33,21 @@ pub fn check(list: &[u8]) -> Result<usize, Refusal> {
 /// let run = ezumokarin::Record::from_bytes(&out);
 /// assert_eq!((run.pos, run.id, run.size, run.off, run.len), (0, 0, 5, 0, 5));
 /// ```
+///
+/// The records of a view are also a list that reads alike up to `chunk_len`, unless they are too
+/// many. But what the list left uncovered is zeros there, and hides what it is laid over.
+///
+/// ```
+/// use ezumokarin::{records, view, Record};
+/// let slice = Record { pos: 2, id: 7, size: 3, off: 0, len: 3 };
+/// let (mut first, mut again) = ([0; 48], [0; 48]);
+/// assert_eq!(view(&slice.to_bytes(), 5, &mut first), Ok(48));
+/// assert_eq!(view(&first, 5, &mut again), Ok(48));
+/// let hole = Record { pos: 0, id: 0, size: 2, off: 0, len: 2 };
+/// assert_eq!(records(&first).collect::<Vec<_>>(), [hole, slice]);
+/// let zeros = Record { size: 0, ..hole };
+/// assert_eq!(records(&again).collect::<Vec<_>>(), [zeros, slice]);
+/// ```
 pub fn view(list: &[u8], chunk_len: u64, out: &mut [u8]) -> Result<usize, Refusal> {
     counted(sys::view(list, chunk_len, out))
 }

@@ -2,8 +2,8 @@
 
 /// A record of a list, or a run of a view.
 ///
-/// In a list, id 0 stands for zeros. In a view, id 0 with size 0 is zeros and id 0 with
-/// size = len is uncovered.
+/// In a list, id 0 stands for zeros, and its size is 0 or len. In a view, id 0 with size 0 is
+/// zeros and id 0 with size = len is uncovered.
 #[derive(Clone, Copy, Debug, PartialEq, Eq, Hash)]
 pub struct Record {
     /// Position in the chunk.

@@ -29,7 +29,7 @@ pub enum Refusal {
         /// The record.
         place: u64,
     },
-    /// 5: id 0 with size or off other than 0
+    /// 5: id 0 with off not 0, or with a size that is neither 0 nor len
     ZeroRecord {
         /// The record.
         place: u64,
@@ -92,7 +92,7 @@ impl Refusal {
             Refusal::ListRecords => "more than 2,048 records",
             Refusal::RecordEnd { .. } => "pos + len above 64 MiB",
             Refusal::SliceSize { .. } => "size above 64 MiB",
-            Refusal::ZeroRecord { .. } => "id 0 with size or off other than 0",
+            Refusal::ZeroRecord { .. } => "id 0 with off not 0, or with a size that is neither 0 nor len",
             Refusal::SliceEnd { .. } => "id not 0 and off + len above size",
             Refusal::ChunkLength => "chunk length above 64 MiB",
             Refusal::BlockSize => "block size not allowed",

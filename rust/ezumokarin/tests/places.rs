@@ -20,5 +20,6 @@ fn places_of_bad_records() {
     second_refused(Record { size: CHUNK + 1, ..GOOD }, Refusal::SliceSize { place: 1 }, 4);
     second_refused(Record { id: 0, off: 0, ..GOOD }, Refusal::ZeroRecord { place: 1 }, 5);
     second_refused(Record { id: 0, size: 0, ..GOOD }, Refusal::ZeroRecord { place: 1 }, 5);
+    second_refused(Record { id: 0, size: 6, ..GOOD }, Refusal::ZeroRecord { place: 1 }, 5);
     second_refused(Record { len: 7, ..GOOD }, Refusal::SliceEnd { place: 1 }, 6);
 }

@@ -49,7 +49,7 @@ fn fault(record: &Record) -> Option<u64> {
     if record.size > CHUNK {
         return Some(4);
     }
-    if record.id == 0 && (record.size != 0 || record.off != 0) {
+    if record.id == 0 && (record.off != 0 || ![0, record.len].contains(&record.size)) {
         return Some(5);
     }
     if record.id != 0 && record.off + record.len > record.size {

@@ -16,7 +16,7 @@ fn crowded(random: &mut Rng) -> Vec<u8> {
 fn crowded_row(random: &mut Rng) -> Row {
     let (pos, len) = (random.below(END - 10), random.below(11));
     match random.below(4) {
-        0 => (pos, 0, 0, 0, len),
+        0 => (pos, 0, zeros_size(random, len), 0, len),
         // One slice lies everywhere at its own position, so that parts rejoin.
         1 => (pos, 1, 100, pos, len),
         2 => (pos, 1, 101, pos, len),

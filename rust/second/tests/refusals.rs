@@ -21,6 +21,20 @@ fn empty_records_are_checked_too() {
 }
 
 #[test]
+fn zeros_have_size_0_or_len_and_off_0() {
+    for size in [0, 8, CHUNK] {
+        let len = size.max(8);
+        assert_eq!(check(&list(&[(0, 0, size, 0, len)])), Ok(1));
+        assert_eq!(check(&list(&[(0, 0, size, 1, len)])), Err(no_at(5, 0)));
+    }
+    for size in [1, 7, 9, CHUNK] {
+        assert_eq!(check(&list(&[(0, 0, size, 0, 8)])), Err(no_at(5, 0)));
+    }
+    assert_eq!(check(&list(&[(0, 0, CHUNK + 1, 0, 8)])), Err(no_at(4, 0)));
+    assert_eq!(check(&list(&[(1, 0, CHUNK, 1, CHUNK)])), Err(no_at(3, 0)));
+}
+
+#[test]
 fn first_bad_record_and_in_it_the_first_refusal() {
     let good = (0, 1, 9, 0, 9);
     assert_eq!(

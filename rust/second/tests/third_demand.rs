@@ -23,7 +23,7 @@ fn some_row(random: &mut Rng, ids: u64) -> Row {
     let len = random.below(40_000) >> random.below(16);
     let id = random.below(ids + 1);
     if id == 0 {
-        return (pos, 0, 0, 0, len);
+        return (pos, 0, zeros_size(random, len), 0, len);
     }
     let off = near_an_edge(random);
     (pos, id, off + len + random.below(3), off, len)
@@ -136,9 +136,10 @@ fn lists_of_one_cover_tidy_to_the_same_bytes() {
         let mut other: Vec<u8> = Vec::new();
         for row in rows(&old) {
             let cut = random.below(row.4 + 1);
-            let off = if row.1 == 0 { 0 } else { row.3 + cut };
+            // A part of zeros has neither the whole's size nor an offset.
+            let (size, off) = if row.1 == 0 { (0, 0) } else { (row.2, row.3 + cut) };
             let (front, back) =
-                ((row.0, row.1, row.2, row.3, cut), (row.0 + cut, row.1, row.2, off, row.4 - cut));
+                ((row.0, row.1, size, row.3, cut), (row.0 + cut, row.1, size, off, row.4 - cut));
             other.extend(list(&[(row.0, 0, 0, 0, row.4), back, front]));
         }
         let tidied = tidy_bytes(&old).expect("a tidied list");

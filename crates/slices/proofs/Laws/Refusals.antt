@@ -5,7 +5,7 @@ use native.Mathlib.Omega.{arith}
 use native.Mathlib.Decide.{ℕ-discrete}
 use native.Mathlib.Numerals.{add-one}
 use mathlib.Core.Path.{_≡_, refl, sym, ap, _∙_}
-use mathlib.Core.Logic.{_≢_, _↔_}
+use mathlib.Core.Logic.{_≢_, _↔_, _⊎_, inl, inr}
 use mathlib.Core.Bool.{Bool, true, false, cond, not, _&&_, _||_, false≢true}
 use mathlib.Core.List.{List, [], _∷_, _++_}
 use lib.Dec.{ltb, eqb}
@@ -31,13 +31,13 @@ use Rattle.outcomes.specs.Answers.{answerOf}
 
 -- a record passes exactly where none of its rows holds
 module _ (r : Record) where
-  zeros-sound : (a b c : Bool) → eqb (r .id) 0 ≡ a → eqb (r .size) 0 ≡ b → eqb (r .off) 0 ≡ c → (a && (not b || not c)) ≡ false
-      → r .id ≡ 0 → (r .size ≡ 0) × (r .off ≡ 0)
-  zeros-sound true true true ea eb ec h z = (eqb-true (r .size) 0 eb, eqb-true (r .off) 0 ec)
-  zeros-sound true true false ea eb ec h z = absurd (false≢true (sym h))
-  zeros-sound true false true ea eb ec h z = absurd (false≢true (sym h))
-  zeros-sound true false false ea eb ec h z = absurd (false≢true (sym h))
-  zeros-sound false b c ea eb ec h z = absurd (eqb-false (r .id) 0 ea z)
+  zeros-sound : (a b c d : Bool) → eqb (r .id) 0 ≡ a → eqb (r .off) 0 ≡ b → eqb (r .size) 0 ≡ c → eqb (r .size) (r .len) ≡ d
+      → (a && (not b || (not c && not d))) ≡ false → r .id ≡ 0 → (r .off ≡ 0) × ((r .size ≡ 0) ⊎ (r .size ≡ r .len))
+  zeros-sound true true true d ea eb ec ed h z = (eqb-true (r .off) 0 eb, inl (eqb-true (r .size) 0 ec))
+  zeros-sound true true false true ea eb ec ed h z = (eqb-true (r .off) 0 eb, inr (eqb-true (r .size) (r .len) ed))
+  zeros-sound true true false false ea eb ec ed h z = absurd (false≢true (sym h))
+  zeros-sound true false c d ea eb ec ed h z = absurd (false≢true (sym h))
+  zeros-sound false b c d ea eb ec ed h z = absurd (eqb-false (r .id) 0 ea z)
 
   within-sound : (a b : Bool) → eqb (r .id) 0 ≡ a → ltb (r .size) (r .off + r .len) ≡ b → (not a && b) ≡ false
       → r .id ≢ 0 → r .off + r .len ≤ r .size
@@ -51,14 +51,22 @@ module _ (r : Record) where
       record {
         inside = ltb-false chunk (r .pos + r .len) (h .0);
         sized = ltb-false chunk (r .size) (h .1 .0);
-        zeros = zeros-sound (eqb (r .id) 0) (eqb (r .size) 0) (eqb (r .off) 0) refl refl refl (h .1 .1 .0);
+        zeros = zeros-sound (eqb (r .id) 0) (eqb (r .off) 0) (eqb (r .size) 0) (eqb (r .size) (r .len)) refl refl refl refl (h .1 .1 .0);
         within = within-sound (eqb (r .id) 0) (ltb (r .size) (r .off + r .len)) refl refl (h .1 .1 .1 .0);
       }
 
-  zeros-none : Passes r → (a : Bool) → eqb (r .id) 0 ≡ a → (a && (not (eqb (r .size) 0) || not (eqb (r .off) 0))) ≡ false
-  zeros-none h true e =
-      let z = h .zeros (eqb-true (r .id) 0 e) in
-      rw (eq-eqb (r .size) 0 (z .0), eq-eqb (r .off) 0 (z .1))
+  -- neither of refusal 5's two faults
+  zeros-clear : r .off ≡ 0 → (r .size ≡ 0) ⊎ (r .size ≡ r .len) → (not (eqb (r .off) 0) || (not (eqb (r .size) 0) && not (eqb (r .size) (r .len)))) ≡ false
+  zeros-clear o (inl s) = rw (eq-eqb (r .off) 0 o, eq-eqb (r .size) 0 s)
+  zeros-clear o (inr s) = rw (eq-eqb (r .off) 0 o, eq-eqb (r .size) (r .len) s) (and-false (not (eqb (r .size) 0)))
+    where
+      and-false : (a : Bool) → (a && false) ≡ false
+      and-false true = refl
+      and-false false = refl
+
+  zeros-none : Passes r → (a : Bool) → eqb (r .id) 0 ≡ a
+      → (a && (not (eqb (r .off) 0) || (not (eqb (r .size) 0) && not (eqb (r .size) (r .len))))) ≡ false
+  zeros-none h true e = let z = h .zeros (eqb-true (r .id) 0 e) in zeros-clear (z .0) (z .1)
   zeros-none h false e = refl
 
   within-none : Passes r → (a : Bool) → eqb (r .id) 0 ≡ a → (not a && ltb (r .size) (r .off + r .len)) ≡ false
@@ -76,7 +84,7 @@ unfolding chunk
 passes-fits r h i = go (ℕ-discrete (r .id) 0)
   where
     go : Dec (r .id ≡ 0) → Fits r
-    go (yes z) = omega (arith, h .zeros z)
+    go (yes z) = omega (arith, h .zeros z .0)
     go (no z) = omega (arith, h .within z)
 
 -- ---- the number of a record's first refusal
@@ -93,17 +101,25 @@ module _ (r : Record) where
 
     module _ (b : r .size ≤ chunk) where
       module _ (z : r .id ≡ 0) where
-        pub fault-5-size : r .size ≢ 0 → number.zerosWithSlice ≡ fault r
+        pub fault-5-off : r .off ≢ 0 → number.zerosWithSlice ≡ fault r
         unfolding fault pastChunk tooLarge zerosWithSlice
-        fault-5-size e = rw (le-ltb chunk (r .pos + r .len) a, le-ltb chunk (r .size) b, eq-eqb (r .id) 0 z, ne-eqb (r .size) 0 e)
+        fault-5-off o = rw (le-ltb chunk (r .pos + r .len) a, le-ltb chunk (r .size) b, eq-eqb (r .id) 0 z, ne-eqb (r .off) 0 o)
 
-        pub fault-5-off : r .size ≡ 0 → r .off ≢ 0 → number.zerosWithSlice ≡ fault r
+        pub fault-5-size : r .off ≡ 0 → r .size ≢ 0 → r .size ≢ r .len → number.zerosWithSlice ≡ fault r
         unfolding fault pastChunk tooLarge zerosWithSlice
-        fault-5-off e f = rw (le-ltb chunk (r .pos + r .len) a, le-ltb chunk (r .size) b, eq-eqb (r .id) 0 z, eq-eqb (r .size) 0 e, ne-eqb (r .off) 0 f)
+        fault-5-size o s t =
+            rw (
+              le-ltb chunk (r .pos + r .len) a,
+              le-ltb chunk (r .size) b,
+              eq-eqb (r .id) 0 z,
+              eq-eqb (r .off) 0 o,
+              ne-eqb (r .size) 0 s,
+              ne-eqb (r .size) (r .len) t,
+            )
 
-        pub fault-0-zeros : r .size ≡ 0 → r .off ≡ 0 → 0 ≡ fault r
+        pub fault-0-zeros : r .off ≡ 0 → (r .size ≡ 0) ⊎ (r .size ≡ r .len) → 0 ≡ fault r
         unfolding fault pastChunk tooLarge zerosWithSlice pastSlice
-        fault-0-zeros e f = rw (le-ltb chunk (r .pos + r .len) a, le-ltb chunk (r .size) b, eq-eqb (r .id) 0 z, eq-eqb (r .size) 0 e, eq-eqb (r .off) 0 f)
+        fault-0-zeros o s = rw (le-ltb chunk (r .pos + r .len) a, le-ltb chunk (r .size) b, eq-eqb (r .id) 0 z, zeros-clear r o s)
 
       module _ (z : r .id ≢ 0) where
         pub fault-6 : r .size < r .off + r .len → number.pastSlice ≡ fault r

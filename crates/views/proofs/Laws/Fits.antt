@@ -1,8 +1,10 @@
--- The records of a view are records of 24 bytes, and so are those of a tidied list. Assumes nothing.
-use Prim.Native.Nat.{ℕ, _+_, _≤_}
+-- The records of a view are records of 24 bytes that pass, and so are those of a tidied list, in which zeros have size 0. Assumes nothing.
+use Prim.Native.Nat.{ℕ, _+_, _-_, _<_, _≤_, zero-le}
 use native.Mathlib.Omega.{arith}
 use native.Mathlib.Nat.{le-refl}
-use mathlib.Core.Bool.{Bool, true, false, cond}
+use mathlib.Core.Path.{_≡_, refl}
+use mathlib.Core.Bool.{Bool, true, false, cond, false≢true}
+use mathlib.Core.Logic.{inl, inr}
 use mathlib.Core.List.{List, [], _∷_, map}
 use Rattle.codec.specs.All.{All}
 use Rattle.slices.specs.Limits.{chunk}
@@ -12,7 +14,10 @@ use Rattle.slices.specs.Record.{Fits}
 use Rattle.slices.proofs.Laws.Sources.{Real, IdFits, cover-real, cover-id}
 use Rattle.runs.specs.Runs.{Run, Valid}
 use Rattle.runs.proofs.Laws.Runs.{valid-le}
-use Rattle.views.specs.View.{next, asRecord, runRecord, viewRuns, view, covered, tidied}
+use Rattle.views.specs.View.{next, asRecord, runRecord, viewRuns, view, tidied}
+use Rattle.views.specs.Inner.{shift, selected, wanted}
+use Rattle.views.proofs.Laws.Next.{run-from}
+use Rattle.views.proofs.Laws.ViewFrom.{selected-none, selected-cons}
 use Rattle.views.proofs.Laws.ViewSource.{view-divides}
 use Rattle.slices.specs.declared.Record.{Record}
 use Rattle.slices.specs.declared.Source.{Source}
@@ -24,30 +29,73 @@ run-fits at n Nothing h q k = omega arith
 run-fits at n Zero h q k = omega arith
 run-fits at n (Byte i s o) h q k = omega (arith, q .1, q .2)
 
-module _ (f : ℕ → Source) (real : (p : ℕ) → Real (f p)) (wide : (p : ℕ) → IdFits (f p)) where
-  runs-fit : (at end : ℕ) → end ≤ chunk → (rs : List (Run Source)) → Valid next f at end rs → All Fits (map runRecord rs)
-  unfolding runRecord
-  runs-fit at end h [] v = tt
-  runs-fit at end h (r ∷ rs) v = (
-    run-fits (r .start) (r .len) (r .first) (omega (arith, valid-le next f (at + r .len) end rs (v .2))) (rw (v .0 .first-is) (real at)) (rw (v .0 .first-is) (wide at)),
-    runs-fit (at + r .len) end h rs (v .2),
-  )
+-- a run of zeros has no size
+run-zeros : (at n : ℕ) (a : Source) → wanted false a ≡ true → Real a → asRecord at n a .id ≡ 0 → asRecord at n a .size ≡ 0
+unfolding asRecord wanted isNothing
+run-zeros at n Nothing w q z = absurd (false≢true w)
+run-zeros at n Zero w q z = refl
+run-zeros at n (Byte i s o) w q z = absurd (q .0 z)
 
--- what holds of the records of all runs holds of those of the covered ones
-covered-all : (P : Record → Type 0) (rs : List (Run Source)) → All P (map runRecord rs) → All P (map runRecord (covered rs))
-unfolding covered
-covered-all P [] h = tt
-covered-all P (r ∷ rs) h = go (isNothing (r .first)) (covered-all P rs (h .1))
-  where
-    go : (t : Bool) → All P (map runRecord (covered rs)) → All P (map runRecord (cond t (covered rs) (r ∷ covered rs)))
-    go true k = k
-    go false k = (h .0, k)
+-- an uncovered run has its length as size, which a list lets pass as zeros
+run-passes : (at n : ℕ) (a : Source) → at + n ≤ chunk → Real a → Real (shift a (n - 1)) → Passes (asRecord at n a)
+unfolding asRecord shift
+run-passes at n Nothing l q k = record { inside = l; sized = omega arith; zeros = λ z. (refl, inr refl); within = λ z. absurd (z refl) }
+run-passes at n Zero l q k = record { inside = l; sized = zero-le; zeros = λ z. (refl, inl refl); within = λ z. absurd (z refl) }
+run-passes at n (Byte i s o) l q k = record { inside = l; sized = q .1; zeros = λ z. absurd (q .0 z); within = λ z. omega (arith, k .2) }
+
+-- what holds of the record of each run that is written holds of all of them; `shift a (n - 1)` is the last source of a run of n positions from a
+module _ (all : Bool) (f : ℕ → Source) (Q : Source → Type 0) (has : (p : ℕ) → Q (f p)) (P : Record → Type 0)
+    (one : (at n : ℕ) (a : Source) → wanted all a ≡ true → at + n ≤ chunk → Q a → Q (shift a (n - 1)) → P (asRecord at n a)) where
+  all-written : (at end : ℕ) → end ≤ chunk → (rs : List (Run Source)) → Valid next f at end rs → All P (map runRecord (selected all rs))
+  all-written at end h [] v = rw (selected-none all) tt
+  all-written at end h (r ∷ rs) v = rw (selected-cons all (r .start) (r .len) (r .first) rs) (go (wanted all (r .first)) refl (all-written (at + r .len) end h rs (v .2)))
+    where
+      some : 0 < r .len
+      some = v .0 .some
+
+      go : (t : Bool) → wanted all (r .first) ≡ t → All P (map runRecord (selected all rs))
+          → All P (cond t (asRecord (r .start) (r .len) (r .first) ∷ map runRecord (selected all rs)) (map runRecord (selected all rs)))
+      go true e k = (
+        one (r .start) (r .len) (r .first) e (omega (arith, valid-le next f (at + r .len) end rs (v .2)))
+            (rw (v .0 .first-is) (has at)) (rw (← run-from f at r (v .0) (r .len - 1) (omega (arith, some))) (has (at + (r .len - 1)))),
+        k,
+      )
+      go false e k = k
+
+-- ---- they pass
+
+module _ (rs : List Record) (h : All Passes rs) where
+  -- of all runs, or of the covered ones
+  all-pass : (all : Bool) (l : ℕ) → l ≤ chunk → All Passes (map runRecord (selected all (viewRuns rs l)))
+  all-pass all l c = all-written all (cover rs) Real (cover-real rs h) Passes (λ at n a w. run-passes at n a) 0 l c (viewRuns rs l) (view-divides rs l)
+
+  pub view-passes : (l : ℕ) → l ≤ chunk → All Passes (view rs l)
+  unfolding view selected
+  view-passes l c = all-pass true l c
+
+  pub tidied-passes : All Passes (tidied rs)
+  unfolding tidied selected
+  tidied-passes = all-pass false chunk (le-refl chunk)
+
+  -- "tidying still writes size 0"
+  pub tidied-zeros : All (λ (r : Record). r .id ≡ 0 → r .size ≡ 0) (tidied rs)
+  unfolding tidied selected
+  tidied-zeros =
+      all-written false (cover rs) Real (cover-real rs h) (λ (r : Record). r .id ≡ 0 → r .size ≡ 0) (λ at n a w l q e. run-zeros at n a w q) 0 chunk (le-refl chunk)
+      (viewRuns rs chunk) (view-divides rs chunk)
+
+-- ---- they have 24 bytes
 
 module _ (rs : List Record) (h : All Passes rs) (k : All Fits rs) where
+  all-fit : (all : Bool) (l : ℕ) → l ≤ chunk → All Fits (map runRecord (selected all (viewRuns rs l)))
+  all-fit all l c =
+      all-written all (cover rs) (λ (a : Source). Real a × IdFits a) (λ p. (cover-real rs h p, cover-id rs k p)) Fits (λ at n a w e q z. run-fits at n a e (q .0) (q .1)) 0 l c
+      (viewRuns rs l) (view-divides rs l)
+
   pub view-records-fit : (l : ℕ) → l ≤ chunk → All Fits (view rs l)
-  unfolding view
-  view-records-fit l c = runs-fit (cover rs) (cover-real rs h) (cover-id rs k) 0 l c (viewRuns rs l) (view-divides rs l)
+  unfolding view selected
+  view-records-fit l c = all-fit true l c
 
   pub tidied-fits : All Fits (tidied rs)
-  unfolding tidied view
-  tidied-fits = covered-all Fits (viewRuns rs chunk) (view-records-fit chunk (le-refl chunk))
+  unfolding tidied selected
+  tidied-fits = all-fit false chunk (le-refl chunk)

@@ -59,7 +59,7 @@ fn one_fault(number: u64) -> Record {
     match number {
         3 => Record::new(CHUNK - 1, 9, 10, 0, 2),
         4 => Record::new(0, 9, CHUNK + 1, 0, 1),
-        5 => Record::new(0, 0, 1, 0, 1),
+        5 => Record::new(0, 0, 1, 0, 8),
         _ => Record::new(0, 9, 10, 4, 7),
     }
 }

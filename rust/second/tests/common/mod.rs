@@ -1,6 +1,7 @@
 //! What the tests share: lists from tuples, and refusals in few words.
 #![allow(dead_code)]
 
+use rng::Rng;
 use second::{Record, Refusal};
 
 pub const MIB: u64 = 1_048_576;
@@ -25,6 +26,11 @@ pub fn no(number: u64) -> Refusal {
 
 pub fn no_at(number: u64, place: u64) -> Refusal {
     Refusal { number, place }
+}
+
+/// A zero record has one of two sizes.
+pub fn zeros_size(random: &mut Rng, len: u64) -> u64 {
+    random.pick(&[0, len])
 }
 
 /// The list of three slices in document 000.
