@@ -1,20 +1,18 @@
 //! Lists and tidied lists at their limits, 2,048 records each, through the safe calls.
 
-#[allow(dead_code)]
 mod common;
-use common::{list, Row};
+use common::{apart, list, Row};
 use ezumokarin::*;
 
 const BLOCK: u64 = 65_536;
 
-/// Bytes of single slices, each behind an uncovered byte, and the view.
-fn apart(records: u32) -> (Vec<u8>, Vec<u8>) {
-    let byte = |i: u32| (2 * i + 1, 7 + u64::from(i), 1, 0, 1);
-    let rows: Vec<Row> = (0..records).map(byte).collect();
-    let mut runs: Vec<Row> = (0..records).flat_map(|i| [(2 * i, 0, 1, 0, 1), byte(i)]).collect();
+/// The view of `apart`: an uncovered byte before each record, and the rest of the chunk.
+fn runs_apart(records: u32) -> Vec<u8> {
+    let run = |byte: Row| [(byte.0 - 1, 0, 1, 0, 1), byte];
+    let mut runs: Vec<Row> = apart(records).into_iter().flat_map(run).collect();
     let rest = CHUNK as u32 - 2 * records;
     runs.push((2 * records, 0, rest, 0, rest));
-    (list(&rows), list(&runs))
+    list(&runs)
 }
 
 /// A slice under zeros at every second byte, and its tidied list: as many records as bytes.
@@ -52,7 +50,7 @@ fn tidied_list_of_2049_records() {
 
 #[test]
 fn every_call_on_2048_records() {
-    let (list, runs) = apart(2_048);
+    let (list, runs) = (list(&apart(2_048)), runs_apart(2_048));
     let (mut out, mut new_list) = (vec![0; 200_000], vec![0; 49_152]);
     assert_eq!(check(&list), Ok(2_048));
     assert_eq!(view(&list, CHUNK, &mut out), Ok(4_097 * Record::LEN));
@@ -70,7 +68,7 @@ fn every_call_on_2048_records() {
 
 #[test]
 fn no_call_on_2049_records() {
-    let (list, _) = apart(2_049);
+    let list = list(&apart(2_049));
     let (mut out, mut new_list) = (vec![0xee; 200_000], vec![0xee; 60_000]);
     let refused = Err(Refusal::ListRecords);
     assert_eq!(check(&list), refused);

@@ -1,16 +1,8 @@
 //! Cases of the papers through the safe calls, with the papers' values.
 
+mod common;
+use common::list_of_000;
 use ezumokarin::*;
-
-const MIB: u32 = 1_048_576;
-
-fn list_of_000() -> Vec<u8> {
-    let rows = [(10, 10, 30, 30), (20, 11, 16, 16), (16, 12, 10, 10)];
-    let record = |(pos, id, size, len): (u32, u64, u32, u32)| {
-        Record { pos: pos * MIB, id, size: size * MIB, off: 0, len: len * MIB }.to_bytes()
-    };
-    rows.into_iter().flat_map(record).collect()
-}
 
 #[test]
 fn view_of_000() {

@@ -2,10 +2,8 @@
 
 mod common;
 
-use common::{lines, list, Row};
+use common::{lines, list, list_of_000, Row};
 use ezumokarin::{read_plan, CHUNK};
-
-const MIB: u32 = 1_048_576;
 
 /// 4 MiB and 64 KiB, two block sizes.
 const USUAL: u64 = 4_194_304;
@@ -16,15 +14,6 @@ fn reads(list: &[u8], chunk_len: u64, block_size: u64, (start, count): (u64, u64
     let mut out = [0; 600];
     let written = read_plan(list, chunk_len, block_size, start, count, &mut out).expect("a plan");
     assert_eq!(lines(&out[..written]), plan);
-}
-
-/// 000's list: pos, id and size in MiB.
-fn list_of_000() -> Vec<u8> {
-    list(&[
-        (10 * MIB, 10, 30 * MIB, 0, 30 * MIB),
-        (20 * MIB, 11, 16 * MIB, 0, 16 * MIB),
-        (16 * MIB, 12, 10 * MIB, 0, 10 * MIB),
-    ])
 }
 
 #[test]

@@ -1,11 +1,10 @@
 //! Zero records with a size, and views fed back as lists, through the safe calls.
 
 mod common;
-use common::{lines, list, Row};
+use common::{apart, lines, list, list_in_mib, list_of_000, Row};
 use ezumokarin::*;
 
 const BLOCK: u64 = 65_536;
-const MIB: u32 = 1_048_576;
 
 fn rows(bytes: &[u8]) -> Vec<Row> {
     records(bytes).map(|r| (r.pos, r.id, r.size, r.off, r.len)).collect()
@@ -59,46 +58,30 @@ fn zeros_with_a_size_are_zeros() {
 /// The new list that 000 prints has id 0 and a size where nothing is covered.
 #[test]
 fn new_list_of_000_is_a_list() {
-    let mib = |r: Row| (r.0 * MIB, r.1, r.2 * MIB, r.3 * MIB, r.4 * MIB);
-    let written = [(10, 10, 30, 0, 30), (20, 11, 16, 0, 16), (16, 12, 10, 0, 10)].map(mib);
-    let printed = [
-        (0, 0, 10, 0, 10),
-        (10, 10, 30, 0, 6),
-        (16, 12, 10, 0, 10),
-        (26, 11, 16, 6, 10),
-        (36, 10, 30, 26, 4),
-        (40, 0, 24, 0, 24),
-    ]
-    .map(mib);
-    let again = viewed(&list(&written), CHUNK);
-    assert_eq!(rows(&again), printed);
-    assert_eq!(check(&again), Ok(6));
-    let mut zeros = printed;
-    zeros[0].2 = 0;
-    zeros[5].2 = 0;
-    assert_eq!(rows(&viewed(&again, CHUNK)), zeros);
-    assert_eq!(rows(&tidied(&again)), zeros);
-    assert_eq!(rows(&tidied(&list(&written))), printed[1..5]);
-}
-
-/// Single bytes of slices, each behind an uncovered one.
-fn apart(bytes: u32) -> Vec<u8> {
-    let rows: Vec<Row> = (0..bytes).map(|i| (2 * i + 1, 7 + u64::from(i), 1, 0, 1)).collect();
-    list(&rows)
+    let slices =
+        [(10, 10, 30, 0, 6), (16, 12, 10, 0, 10), (26, 11, 16, 6, 10), (36, 10, 30, 26, 4)];
+    let with = |first: Row, last: Row| list_in_mib(&[&[first], &slices[..], &[last]].concat());
+    let printed = with((0, 0, 10, 0, 10), (40, 0, 24, 0, 24));
+    assert_eq!(viewed(&list_of_000(), CHUNK), printed);
+    assert_eq!(check(&printed), Ok(6));
+    let zeros = with((0, 0, 0, 0, 10), (40, 0, 0, 0, 24));
+    assert_eq!(viewed(&printed, CHUNK), zeros);
+    assert_eq!(tidied(&printed), zeros);
+    assert_eq!(tidied(&list_of_000()), list_in_mib(&slices));
 }
 
 #[test]
 fn view_is_accepted_or_refused_with_2() {
-    let list = apart(1_024);
-    assert_eq!(check(&viewed(&list, 2_048)), Ok(2_048));
-    assert_eq!(check(&viewed(&list, 2_049)), Err(Refusal::ListRecords));
-    assert_eq!(check(&viewed(&apart(2_048), CHUNK)), Err(Refusal::ListRecords));
+    let half = list(&apart(1_024));
+    assert_eq!(check(&viewed(&half, 2_048)), Ok(2_048));
+    assert_eq!(check(&viewed(&half, 2_049)), Err(Refusal::ListRecords));
+    assert_eq!(check(&viewed(&list(&apart(2_048)), CHUNK)), Err(Refusal::ListRecords));
     assert_eq!(check(&viewed(&[], 0)), Ok(0));
 }
 
 #[test]
 fn view_has_the_plan_of_its_list() {
-    let list = apart(1_000);
+    let list = list(&apart(1_000));
     let again = viewed(&list, 2_000);
     let plan = |list: &[u8], chunk_len| {
         let mut out = vec![0; 2_001 * Piece::LEN];

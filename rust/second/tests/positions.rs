@@ -1,6 +1,7 @@
 //! The view and the plan against a walk over every position, on short lists.
 
 mod common;
+use common::random::zeros_size;
 use common::*;
 use rng::Rng;
 use second::{read_plan, source_at, view, Location, Piece, Record, Source};

@@ -2,54 +2,14 @@
 //! a store, copying and appended records.
 
 mod common;
+use common::random::*;
 use common::*;
 use rng::Rng;
 use second::limits::RECORD;
 use second::store::Store;
 use second::{compact_bytes, records, source_at, tidy_bytes, Record, Source};
 
-const BLOCK_SIZE: u64 = 65_536;
-/// Positions reach over two edges of blocks.
-const END: u64 = 150_000;
 const NEW: u64 = 9;
-
-fn some_list(random: &mut Rng, most: u64, ids: u64) -> Vec<u8> {
-    let rows: Vec<Row> = (0..random.below(most + 1)).map(|_| some_row(random, ids)).collect();
-    list(&rows)
-}
-
-fn some_row(random: &mut Rng, ids: u64) -> Row {
-    let pos = near_an_edge(random);
-    let len = random.below(40_000) >> random.below(16);
-    let id = random.below(ids + 1);
-    if id == 0 {
-        return (pos, 0, zeros_size(random, len), 0, len);
-    }
-    let off = near_an_edge(random);
-    (pos, id, off + len + random.below(3), off, len)
-}
-
-fn near_an_edge(random: &mut Rng) -> u64 {
-    match random.below(3) {
-        0 => random.below(2) * BLOCK_SIZE + 65_530 + random.below(12),
-        1 => random.below(50),
-        _ => random.below(100_000),
-    }
-}
-
-/// Positions where something can change, and some others.
-fn positions(lists: &[&[Record]], random: &mut Rng) -> Vec<u64> {
-    let mut all: Vec<u64> = (0..200).map(|_| random.below(END)).collect();
-    for record in lists.iter().copied().flatten() {
-        for edge in [record.pos, record.end(), record.pos + BLOCK_SIZE, record.pos + 2 * BLOCK_SIZE]
-        {
-            all.extend(edge.saturating_sub(2)..edge + 2);
-        }
-    }
-    all.push(CHUNK - 1);
-    all.retain(|position| *position < CHUNK);
-    all
-}
 
 fn joined(first: &[u8], then: &[u8]) -> Vec<Record> {
     records(&[first, then].concat()).expect("an accepted list")

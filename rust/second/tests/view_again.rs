@@ -1,15 +1,11 @@
 //! Zero records with a size, as a view has them for its holes, and views fed back as lists.
 
 mod common;
+use common::random::*;
 use common::*;
 use rng::Rng;
 use second::store::Store;
-use second::{
-    check, read_plan_bytes, records, source_at, tidy_bytes, view_bytes, Record, Refusal, Source,
-};
-
-const BLOCK_SIZE: u64 = 65_536;
-const END: u64 = 200_000;
+use second::{check, read_plan_bytes, records, source_at, tidy_bytes, view_bytes, Source};
 
 #[test]
 fn zero_record_with_a_size_is_zeros() {
@@ -25,16 +21,7 @@ fn zero_record_with_a_size_is_zeros() {
 /// 000 prints its view with id 0 and a size where nothing is covered.
 #[test]
 fn view_of_000_fed_back() {
-    let mib = |r: Row| (r.0 * MIB, r.1, r.2 * MIB, r.3 * MIB, r.4 * MIB);
-    let printed = [
-        (0, 0, 10, 0, 10),
-        (10, 10, 30, 0, 6),
-        (16, 12, 10, 0, 10),
-        (26, 11, 16, 6, 10),
-        (36, 10, 30, 26, 4),
-        (40, 0, 24, 0, 24),
-    ]
-    .map(mib);
+    let printed = view_of_000();
     let mut zeros = printed;
     zeros[0].2 = 0;
     zeros[5].2 = 0;
@@ -58,53 +45,25 @@ fn view_fed_back_may_be_too_long() {
     assert_eq!(again(&apart(2_048), CHUNK), Err(no(2)));
 }
 
-fn some_list(random: &mut Rng) -> Vec<u8> {
-    let rows: Vec<Row> = (0..random.below(9)).map(|_| some_row(random)).collect();
-    list(&rows)
-}
-
-fn some_row(random: &mut Rng) -> Row {
-    let pos = random.below(100_000);
-    let len = random.below(END - pos) >> random.below(16);
-    let id = random.below(4);
-    if id == 0 {
-        return (pos, 0, zeros_size(random, len), 0, len);
-    }
-    let off = random.below(END);
-    (pos, id, off + len + random.below(3), off, len)
-}
-
-/// Positions where something can change, and some others.
-fn positions(records: &[Record], l: u64, random: &mut Rng) -> Vec<u64> {
-    let edges = records.iter().flat_map(|r| [r.pos, r.end()]).chain([l]);
-    let near = edges.flat_map(|edge| edge.saturating_sub(2)..edge + 2);
-    near.chain((0..100).map(|_| random.below(END))).filter(|p| *p < CHUNK).collect()
-}
-
 #[test]
 fn view_fed_back_reads_alike_and_holes_are_zeros() {
     let mut random = Rng::new(7);
     for round in 0..300 {
-        let list = some_list(&mut random);
-        let l = random.below(END);
+        let (list, l) = (some_list(&mut random, 8, 4), random.below(END));
         let again = view_bytes(&list, l).expect("a view");
         let (old, new) = (records(&list).expect("a list"), records(&again).expect("a list"));
         let store = Store::new(round);
-        for p in positions(&old, l, &mut random) {
+        let read = |records, p| store.read(records, BLOCK_SIZE, p);
+        for p in positions(&[&old, &new], &mut random) {
             let expected = match source_at(&old, p) {
                 _ if p >= l => Source::Nothing,
                 Source::Nothing => Source::Zero,
                 source => source,
             };
             assert_eq!(source_at(&new, p), expected, "position {p} of {l}");
-            if p < l {
-                let byte = store.read(&old, BLOCK_SIZE, p);
-                assert_eq!(store.read(&new, BLOCK_SIZE, p), byte, "position {p} of {l}");
-            }
+            assert!(p >= l || read(&new, p) == read(&old, p), "position {p} of {l}");
         }
-        let plan = |list: &[u8]| -> Result<Vec<u8>, Refusal> {
-            read_plan_bytes(list, l, BLOCK_SIZE, 0, CHUNK)
-        };
+        let plan = |list| read_plan_bytes(list, l, BLOCK_SIZE, 0, CHUNK).expect("a plan");
         assert_eq!(plan(&again), plan(&list));
     }
 }

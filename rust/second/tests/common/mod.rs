@@ -1,7 +1,8 @@
 //! What the tests share: lists from tuples, and refusals in few words.
 #![allow(dead_code)]
 
-use rng::Rng;
+pub mod random;
+
 use second::{Record, Refusal};
 
 pub const MIB: u64 = 1_048_576;
@@ -28,14 +29,24 @@ pub fn no_at(number: u64, place: u64) -> Refusal {
     Refusal { number, place }
 }
 
-/// A zero record has one of two sizes.
-pub fn zeros_size(random: &mut Rng, len: u64) -> u64 {
-    random.pick(&[0, len])
+/// Rows that have all but their ids in MiB.
+pub fn in_mib<const N: usize>(rows: [Row; N]) -> [Row; N] {
+    rows.map(|r| (r.0 * MIB, r.1, r.2 * MIB, r.3 * MIB, r.4 * MIB))
 }
 
 /// The list of three slices in document 000.
 pub fn list_of_000() -> Vec<u8> {
-    let mib = |r: &Row| (r.0 * MIB, r.1, r.2 * MIB, r.3 * MIB, r.4 * MIB);
-    let rows = [(10, 10, 30, 0, 30), (20, 11, 16, 0, 16), (16, 12, 10, 0, 10)];
-    list(&rows.iter().map(mib).collect::<Vec<_>>())
+    list(&in_mib([(10, 10, 30, 0, 30), (20, 11, 16, 0, 16), (16, 12, 10, 0, 10)]))
+}
+
+/// The view of it, which 000 prints as the new list.
+pub fn view_of_000() -> [Row; 6] {
+    in_mib([
+        (0, 0, 10, 0, 10),
+        (10, 10, 30, 0, 6),
+        (16, 12, 10, 0, 10),
+        (26, 11, 16, 6, 10),
+        (36, 10, 30, 26, 4),
+        (40, 0, 24, 0, 24),
+    ])
 }
