@@ -25,13 +25,20 @@ static uint64_t number(const uint8_t *bytes, int width)
     return n;
 }
 
-/* How many bytes were written; ends the program where a call was refused. */
+/* Ends the program where a call was refused. */
+static void passed(uint64_t refusal, uint64_t place)
+{
+    if (!refusal)
+        return;
+    printf("refused %" PRIu64 " at %" PRIu64 "\n", refusal, place);
+    exit(1);
+}
+
+/* How many bytes a call wrote. */
 static size_t written(ezk_answer a)
 {
-    if (!a.refusal)
-        return a.count;
-    printf("refused %" PRIu64 " at %" PRIu64 "\n", a.refusal, a.place);
-    exit(1);
+    passed(a.refusal, a.place);
+    return a.count;
 }
 
 static size_t view(const uint8_t *list, size_t len, uint8_t *out)
@@ -56,6 +63,16 @@ static void over_older(const char *title, const uint8_t *list, size_t len)
     print(title, seen, view(both, EZK_RECORD + len, seen));
 }
 
+/* The list that is left once all of its records are compacted into slice 11. */
+static void compacted(const char *title, const uint8_t *list, size_t len)
+{
+    uint8_t plan[ROOM * EZK_PIECE], new_list[EZK_RECORD];
+    ezk_compacted c = ezk_compact(list, len, BLOCK, len / EZK_RECORD, 11, plan, sizeof plan,
+                                  new_list, sizeof new_list);
+    passed(c.refusal, c.place);
+    print(title, new_list, c.list);
+}
+
 int main(void)
 {
     uint8_t first[ROOM * EZK_RECORD], again[ROOM * EZK_RECORD], tidied[ROOM * EZK_RECORD];
@@ -73,5 +90,7 @@ int main(void)
     over_older("the list over slice 9", newer, EZK_RECORD);
     over_older("the tidied list over slice 9", tidied, tidied_len);
     over_older("the view over slice 9", first, first_len);
+    compacted("the list compacted", newer, EZK_RECORD);
+    compacted("the view compacted", first, first_len);
     return 0;
 }

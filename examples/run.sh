@@ -7,7 +7,7 @@ dist=$(cd "${1:-$here/../dist}" && pwd)
 work=$(mktemp -d)
 trap 'rm -rf "$work"' EXIT
 
-cat > "$work/expected" <<'TABLE'
+cat > "$work/view.expected" <<'TABLE'
 pos id size off len
 0 0 10485760 0 10485760
 10485760 10 31457280 0 6291456
@@ -22,7 +22,7 @@ TABLE
 # starts at position 65,586, which is place 65,486. Byte o of slice i is 60 i + o % 60. The bytes printed are those at 97 (uncovered), 98 and 101 (slice 3, offsets
 # 0 and 3), 102 (slice 1, offset 52), 110 (a zero), 115, 65,586, 65,636 and 70,039 (slice 1, offsets 65, 65,536, 65,586 and 69,989), 70,040 (slice 2, offset 0)
 # and 70,060 (uncovered).
-cat > "$work/compacted" <<'TEXT'
+cat > "$work/compact.expected" <<'TEXT'
 old list reads 0 180 183 112 0 65 76 66 89 120 0
 RB 0 10
 RZ 10 5
@@ -39,19 +39,17 @@ new list reads 0 180 183 112 0 65 76 66 89 120 0
 both read the same bytes
 TEXT
 
-# example NAME EXPECTED
-example() {
-    cc -std=c99 -O1 -Wall -Wextra -Werror -I"$here/../include" "$here/$1.c" "$dist/libezumokarin.a" \
-        -o "$work/$1"
-    "$work/$1" > "$work/from_c"
-    diff "$2" "$work/from_c"
-    echo "$1.c: as expected"
-}
-example view "$work/expected"
-example compact "$work/compacted"
 # The lines that the page shows, by hand from the requirements.
-sed -n 's/^    //p' "$here/../docs/VIEW-AGAIN.md" > "$work/again_expected"
-example again "$work/again_expected"
+sed -n 's/^    //p' "$here/../docs/VIEW-AGAIN.md" > "$work/again.expected"
+
+# Every example has its expected lines.
+for source in "$here"/*.c; do
+    name=$(basename "$source" .c)
+    cc -std=c99 -O1 -Wall -Wextra -Werror -I"$here/../include" "$source" "$dist/libezumokarin.a" -o "$work/$name"
+    "$work/$name" > "$work/from_c"
+    diff "$work/$name.expected" "$work/from_c"
+    echo "$name.c: as expected"
+done
 
 # Python needs a shared library; without one in the folder it is made from the archive.
 shared=$dist/libezumokarin.so
@@ -60,5 +58,5 @@ if [ ! -f "$shared" ]; then
     cc -shared -Wl,--whole-archive "$dist/libezumokarin.a" -Wl,--no-whole-archive -o "$shared"
 fi
 python3 "$here/view.py" "$shared" > "$work/from_python"
-diff "$work/expected" "$work/from_python"
+diff "$work/view.expected" "$work/from_python"
 echo "view.py: as expected"

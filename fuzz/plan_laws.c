@@ -33,6 +33,19 @@ static int reads(piece p, uint64_t done, record run, uint64_t off, uint64_t bloc
            p.block_len == (rest < block_size ? rest : block_size);
 }
 
+/* As a list, the view is read by the same plan, unless it is too long. */
+static void again_law(const call *call, const answer *a, const answer *view)
+{
+    struct call again = other(call, READ_PLAN, view->written[0], view->value[0]);
+    memcpy(again.number, call->number, sizeof again.number);
+    answer plan = make_ample(&again);
+    if (view->value[0] / EZK_RECORD > LIST_RECORDS)
+        must(call, plan.refusal == EZK_LIST_RECORDS, "a list that is too long is read");
+    else
+        must(call, same(&plan, a->written[0], a->value[0]), "the view has another plan");
+    done_with(&plan);
+}
+
 /*
  * Every piece against the runs of the view under it. There can be several: slices of one id
  * and different sizes share the objects of their full blocks.
@@ -72,14 +85,7 @@ void plan_law(const call *call, const answer *a)
         place += p.len;
     }
     must(call, place == left, "the pieces do not end with the read");
-
-    /* As a list, the view is read by the same plan. */
-    struct call again = other(call, READ_PLAN, view.written[0], view.value[0]);
-    memcpy(again.number, call->number, sizeof again.number);
-    answer plan = make_ample(&again);
-    must(call, plan.refusal == EZK_LIST_RECORDS || same(&plan, a->written[0], a->value[0]),
-         "the view is read in another way than its list");
-    done_with(&plan);
+    again_law(call, a, &view);
     done_with(&view);
 }
 

@@ -68,9 +68,9 @@ enum {
 
 /*
  * A slice record has 24 bytes, big-endian: pos (4), id (8), size (4), off (4), len (4).
- * It covers positions pos up to, but without, pos + len. Id 0 is zeros, with off 0 and a
- * size of 0 or len; any other id is slice bytes from slice offset off on, of a slice of size
- * bytes. Records stand in order of writing; a later one wins.
+ * It covers positions pos up to, but without, pos + len. In a list, id 0 is zeros, with off
+ * 0 and a size of 0 or len; any other id is slice bytes from slice offset off on, of a slice
+ * of size bytes. Records stand in order of writing; a later one wins.
  *
  * Slices are stored in blocks, and one block size B holds for a whole volume. Slice offset o
  * lies in block o / B at place o % B. Block i of a slice of size bytes has min(B, size - i * B)

@@ -15,7 +15,7 @@ pub const PAST_CHUNK: u8 = 3;
 // size is above 64 MiB.
 pub const TOO_LARGE: u8 = 4;
 
-// The id is 0, and off is not, or size is neither 0 nor len.
+// Id 0 has an off that is not 0, or a size that is neither 0 nor len.
 pub const ZEROS_WITH_SLICE: u8 = 5;
 
 // The id is not 0, and off + len is above size.

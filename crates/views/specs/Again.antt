@@ -2,16 +2,14 @@
 use Prim.Native.Nat.{ℕ, _<_, _≤_}
 use mathlib.Core.Path.{_≡_}
 use mathlib.Core.Logic.{_≢_}
-use mathlib.Core.List.{List}
+use mathlib.Core.List.{List, [], _∷_}
 use Rattle.codec.specs.All.{All}
 use Rattle.outcomes.specs.Numbers as number
-use Rattle.outcomes.specs.Outcome.{refused, refusal}
-use Rattle.slices.specs.Limits.{maxRecords}
-use Rattle.slices.specs.Accepts.{Accepts}
+use Rattle.outcomes.specs.Outcome.{done, row, firstOf}
 use Rattle.slices.specs.Cover.{cover}
 use Rattle.slices.specs.Passes.{Passes}
 use Rattle.slices.specs.Record.{count, records}
-use Rattle.slices.specs.Refusals.{checkOutcome}
+use Rattle.slices.specs.Refusals.{tooMany, checkOutcome}
 use Rattle.slices.specs.declared.Record.{Record}
 use Rattle.slices.specs.declared.Source.the-variants.{Nothing, Zero}
 
@@ -23,8 +21,7 @@ pub record Again (rs again : List Record) (l : ℕ) : Type 0 where
   pub hole : (p : ℕ) → p < l → cover rs p ≡ Nothing → cover again p ≡ Zero
   pub past : (p : ℕ) → l ≤ p → cover again p ≡ Nothing
 
--- what its bytes are as a list: accepted, "unless refused with 2"
+-- what its bytes are as a list: of the rows of the check only that of refusal 2 can hold ("unless refused with 2")
 pub record AgainBytes (bs again : List ℕ) (l : ℕ) : Type 0 where
-  pub accepted : count again ≤ maxRecords → Accepts again
-  pub too-many : maxRecords < count again → checkOutcome again ≡ refused (refusal number.tooMany 0)
+  pub checks : checkOutcome again ≡ firstOf (row (tooMany again) number.tooMany 0 ∷ []) (done (count again))
   pub means : Again (records bs) (records again) l

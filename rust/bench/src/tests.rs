@@ -3,7 +3,7 @@
 use rng::Rng;
 
 use crate::plans::{compact, read_plan};
-use crate::record::{Record, CHUNK, RECORD};
+use crate::record::{checked, Record, CHUNK, RECORD};
 use crate::{texts, tree, walk};
 
 const BLOCK_SIZE: u32 = 65_536;
@@ -52,6 +52,26 @@ fn views_and_plans_are_those_of_the_second_program() {
             assert_eq!(filled(|out| read_plan(write, &list, BLOCK_SIZE, out)), plan);
         }
     }
+}
+
+/// Fields at a few edges: some of these records are sound, and some are not.
+fn any_record(rng: &mut Rng) -> [u8; RECORD] {
+    let edges = [0, 0, 8, 8, 9, CHUNK, CHUNK + 1];
+    let mut edge = || rng.pick(&edges);
+    let (pos, size, off, len) = (edge(), edge(), edge(), edge());
+    bytes(Record { pos, id: u64::from(edge() % 2), size, off, len })
+}
+
+#[test]
+fn lists_are_accepted_as_by_the_second_program() {
+    let mut rng = Rng::new(4);
+    let mut accepted = 0;
+    for _ in 0..10_000 {
+        let list = any_record(&mut rng);
+        assert_eq!(checked(&list).is_some(), second::check(&list).is_ok(), "{list:?}");
+        accepted += u32::from(checked(&list).is_some());
+    }
+    assert!((1_000..9_000).contains(&accepted));
 }
 
 #[test]

@@ -1,7 +1,7 @@
 //! The calls that the papers speak of, and limits from both sides. Their values are tested
 //! in the second program.
 
-use second::limits::CHUNK;
+use second::limits::{CHUNK, LIST_RECORDS, RECORD};
 use second::Record;
 
 use crate::call::{Call, Room};
@@ -63,6 +63,7 @@ fn zero_records() -> Vec<Call> {
 fn fed_back() -> Vec<Call> {
     let view = |list: &[u8]| second::view_bytes(list, CHUNK).expect("a view");
     let views = [view(&[]), view(&three()), view(&comb(2_047)), view(&comb(2_048))];
+    assert_eq!(views[3].len(), (LIST_RECORDS + 1) * RECORD);
     views.into_iter().flat_map(with).collect()
 }
 

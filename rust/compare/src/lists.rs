@@ -2,7 +2,7 @@
 
 use std::iter;
 
-use second::limits::{CHUNK, LIST_RECORDS, RECORD, TIDIED_RECORDS};
+use second::limits::{CHUNK, LIST_RECORDS, TIDIED_RECORDS};
 use second::Record;
 
 use crate::numbers;
@@ -25,12 +25,6 @@ pub fn sound(rng: &mut Rng) -> Vec<u8> {
 /// A view of the list in its place. Without a view the list stays.
 fn fed_back(rng: &mut Rng, list: Vec<u8>) -> Vec<u8> {
     second::view_bytes(&list, numbers::chunk_len(rng)).unwrap_or(list)
-}
-
-/// Whether a record of the list has id 0 and its length as size, which is not 0.
-pub fn has_sized_zeros(list: &[u8]) -> bool {
-    let mut records = list.chunks_exact(RECORD).map(Record::from_bytes);
-    records.any(|record| record.id == 0 && record.size != 0 && record.size == record.len)
 }
 
 /// Zeros have size 0 or, like the holes of a view, their length.

@@ -13,6 +13,7 @@ mod expected;
 mod header;
 mod lent;
 mod lists;
+mod marks;
 mod mutate;
 mod null;
 mod numbers;

@@ -2,13 +2,10 @@
 
 use crate::call::{Call, Room};
 use crate::tally::Tally;
-use crate::{lists, mutate, numbers, texts};
+use crate::{lists, marks, mutate, numbers, texts};
 use rng::Rng;
 
 const ORIGIN: &str = "random";
-/// Those of them whose list has zeros with a size.
-const SIZED_ZEROS: &str = "random, zeros with a size";
-const WITH_LIST: [&str; 5] = ["check", "view", "tidy", "read_plan", "compact"];
 
 /// Compares random calls until `calls` calls have been compared in all.
 pub fn run(tally: &mut Tally, seed: u64, calls: u64) {
@@ -16,20 +13,15 @@ pub fn run(tally: &mut Tally, seed: u64, calls: u64) {
     while tally.compared() < calls {
         let call = any_call(&mut rng);
         let refusal = tally.compare(ORIGIN, &call);
-        if call.list().is_some_and(lists::has_sized_zeros) {
-            tally.mark(SIZED_ZEROS, call.name(), refusal);
-        }
+        marks::count(tally, &call, refusal);
     }
 }
 
-/// Random calls must meet every refusal that the chosen calls do, and be answered where zeros
-/// have a size; else they are too tame.
+/// Random calls must meet every refusal that the chosen calls do, and every kind of list that
+/// is marked; else they are too tame.
 pub fn reach(tally: &mut Tally) {
-    for call in WITH_LIST {
-        if tally.answered(SIZED_ZEROS, call) == 0 {
-            tally
-                .difference("random calls", &format!("no {call} of zeros with a size is answered"));
-        }
+    for missed in marks::missed(tally) {
+        tally.difference("random calls", &missed);
     }
     for (call, number) in tally.missed(ORIGIN) {
         tally.difference("random calls", &format!("none is a {call} that gives {number}"));

@@ -48,9 +48,9 @@ impl Tally {
         calls.entry(call).or_default()[refusal as usize] += 1;
     }
 
-    pub fn answered(&self, table: &str, call: &str) -> u64 {
+    pub fn counted(&self, table: &str, call: &str, refusal: usize) -> u64 {
         let counts = self.origins.get(table).and_then(|calls| calls.get(call));
-        counts.map_or(0, |counts| counts[0])
+        counts.map_or(0, |counts| counts[refusal])
     }
 
     /// What calls of other origins met and none of this one did: the call, and its refusal or 0.
@@ -86,7 +86,7 @@ impl Tally {
 impl fmt::Display for Tally {
     fn fmt(&self, f: &mut fmt::Formatter<'_>) -> fmt::Result {
         for (origin, calls) in &self.origins {
-            write!(f, "{origin:26}{:>10}", "answered")?;
+            write!(f, "{origin:28}{:>8}", "answered")?;
             for number in 1..REFUSALS {
                 write!(f, "{number:>9}")?;
             }

@@ -1,5 +1,5 @@
 -- The records of a view are records of 24 bytes that pass, and so are those of a tidied list, in which zeros have size 0. Assumes nothing.
-use Prim.Native.Nat.{ℕ, _+_, _-_, _<_, _≤_, zero-le}
+use Prim.Native.Nat.{ℕ, _+_, _-_, _≤_, zero-le}
 use native.Mathlib.Omega.{arith}
 use native.Mathlib.Nat.{le-refl}
 use mathlib.Core.Path.{_≡_, refl}
@@ -50,14 +50,11 @@ module _ (all : Bool) (f : ℕ → Source) (Q : Source → Type 0) (has : (p : �
   all-written at end h [] v = rw (selected-none all) tt
   all-written at end h (r ∷ rs) v = rw (selected-cons all (r .start) (r .len) (r .first) rs) (go (wanted all (r .first)) refl (all-written (at + r .len) end h rs (v .2)))
     where
-      some : 0 < r .len
-      some = v .0 .some
-
       go : (t : Bool) → wanted all (r .first) ≡ t → All P (map runRecord (selected all rs))
           → All P (cond t (asRecord (r .start) (r .len) (r .first) ∷ map runRecord (selected all rs)) (map runRecord (selected all rs)))
       go true e k = (
         one (r .start) (r .len) (r .first) e (omega (arith, valid-le next f (at + r .len) end rs (v .2)))
-            (rw (v .0 .first-is) (has at)) (rw (← run-from f at r (v .0) (r .len - 1) (omega (arith, some))) (has (at + (r .len - 1)))),
+            (rw (v .0 .first-is) (has at)) (rw (← run-from f at r (v .0) (r .len - 1) (omega arith)) (has (at + (r .len - 1)))),
         k,
       )
       go false e k = k

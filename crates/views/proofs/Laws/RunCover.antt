@@ -29,7 +29,7 @@ layer-run at n Zero p e h k = layer-in (asRecord at n Zero) p h k ∙ given-zero
 layer-run at n (Byte i s o) p e h k = layer-in (asRecord at n (Byte i s o)) p h k ∙ given-byte (asRecord at n (Byte i s o)) p (e .0)
 
 -- p is before `at`, or not before e
-abbrev pub Out : ℕ → ℕ → ℕ → Type 0
+abbrev Out : ℕ → ℕ → ℕ → Type 0
 Out at e p = (p < at) ⊎ (e ≤ p)
 
 layer-out : (r : Record) (p : ℕ) → Out (r .pos) (r .pos + r .len) p → layer r p ≡ Nothing
@@ -46,7 +46,6 @@ layer-run-out at n (Byte i s o) p h = layer-out (asRecord at n (Byte i s o)) p h
 
 -- what a source becomes in the list of all runs, where nothing becomes a zero, and in that of the covered ones
 unfoldable pub laid : Bool → Source → Source
-unfolding over
 laid true a = over a Zero
 laid false a = a
 

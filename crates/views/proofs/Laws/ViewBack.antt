@@ -56,11 +56,11 @@ module _ (bs : List ℕ) (b : Bytes bs) where
   -- where the call succeeds, the list is accepted, and the view's bytes are those that it wrote, as many as it counted: read back they are the
   -- view, and give each position its source
   module _ (l : ℕ) (before after : List ℕ) (n : ℕ) (a : Answers (viewOutcome bs l (length before)) before (Wrote n) after) where
-    pub view-wrote : Accepts bs × Front (viewBytes bs l) n after
+    pub view-wrote : Accepts bs × (l ≤ chunk) × Front (viewBytes bs l) n after
     view-wrote =
         let w = said-wrote (viewOutcome bs l (length before)) before after n a in
         let d = view-done l (length before) (w .bytes) (w .outcome) in
-        (d .0, rw (d .2) at (w .first))
+        (d .0, d .1, rw (d .2) at (w .first))
 
     pub view-wrote-back : records (take n after) ≡ view (records bs) l
     view-wrote-back =

@@ -1,0 +1,66 @@
+//! Kinds of lists that random calls must have met, each counted in a table of its own.
+
+use second::limits::RECORD;
+use second::Record;
+
+use crate::call::Call;
+use crate::tally::Tally;
+
+/// The calls that take a list.
+const CALLS: [&str; 5] = ["check", "view", "tidy", "read_plan", "compact"];
+
+/// A kind of list, and a refusal (0 for an answer) that each call must give to one of them.
+struct Mark {
+    name: &'static str,
+    is: fn(&[Record]) -> bool,
+    met: usize,
+}
+
+const MARKS: [Mark; 3] = [
+    Mark { name: "random, zeros with a size", is: several_sized_zeros, met: 0 },
+    Mark { name: "random, views fed back", is: view_with_holes, met: 0 },
+    Mark { name: "random, zeros of other size", is: zeros_of_other_size, met: 5 },
+];
+
+/// Counts a call that gave this refusal under every mark that its list has.
+pub fn count(tally: &mut Tally, call: &Call, refusal: u64) {
+    let Some(list) = call.list() else {
+        return;
+    };
+    let records: Vec<Record> = list.chunks_exact(RECORD).map(Record::from_bytes).collect();
+    for mark in MARKS.iter().filter(|mark| (mark.is)(&records)) {
+        tally.mark(mark.name, call.name(), refusal);
+    }
+}
+
+/// What should have been met and was not.
+pub fn missed(tally: &Tally) -> Vec<String> {
+    let pairs = MARKS.iter().flat_map(|mark| CALLS.map(|call| (mark, call)));
+    let missed = pairs.filter(|(mark, call)| tally.counted(mark.name, call, mark.met) == 0);
+    missed.map(|(mark, call)| format!("no {call} of {} gives {}", mark.name, mark.met)).collect()
+}
+
+fn sized_zeros(record: &Record) -> bool {
+    record.id == 0 && record.size != 0 && record.size == record.len
+}
+
+/// Side by side, in a list that is no view; one change of a view doesn't make one.
+fn several_sized_zeros(records: &[Record]) -> bool {
+    !without_gaps(records) && records.windows(2).any(|pair| pair.iter().all(sized_zeros))
+}
+
+fn view_with_holes(records: &[Record]) -> bool {
+    records.len() > 1 && without_gaps(records) && records.iter().any(sized_zeros)
+}
+
+/// Ascending from 0, each record from the end of the one before.
+fn without_gaps(records: &[Record]) -> bool {
+    let ends = [0].into_iter().chain(records.iter().map(Record::end));
+    ends.zip(records).all(|(end, record)| record.pos == end)
+}
+
+/// One more or less than the length.
+fn zeros_of_other_size(records: &[Record]) -> bool {
+    let near = |r: &Record| r.size != 0 && r.size.abs_diff(r.len) == 1;
+    records.iter().any(|record| record.id == 0 && record.off == 0 && near(record))
+}
