@@ -1,10 +1,7 @@
 /* Feeds a view back as a list: it reads alike, but its holes have become zeros. */
-#include <inttypes.h>
-#include <stdio.h>
-#include <stdlib.h>
 #include <string.h>
 
-#include "ezumokarin.h"
+#include "records.h"
 
 enum { LENGTH = 8, BLOCK = 65536, ROOM = 9 };
 
@@ -15,24 +12,6 @@ static const uint8_t older[EZK_RECORD] = {
 static const uint8_t newer[EZK_RECORD] = {
     0, 0, 0, 4,  0, 0, 0, 0, 0, 0, 0, 10,  0, 0, 0, 2,  0, 0, 0, 0,  0, 0, 0, 2,
 };
-
-/* A big-endian number of `width` bytes. */
-static uint64_t number(const uint8_t *bytes, int width)
-{
-    uint64_t n = 0;
-    while (width-- > 0)
-        n = n << 8 | *bytes++;
-    return n;
-}
-
-/* Ends the program where a call was refused. */
-static void passed(uint64_t refusal, uint64_t place)
-{
-    if (!refusal)
-        return;
-    printf("refused %" PRIu64 " at %" PRIu64 "\n", refusal, place);
-    exit(1);
-}
 
 /* How many bytes a call wrote. */
 static size_t written(ezk_answer a)
@@ -48,10 +27,8 @@ static size_t view(const uint8_t *list, size_t len, uint8_t *out)
 
 static void print(const char *title, const uint8_t *records, size_t len)
 {
-    printf("%s\n", title);
-    for (const uint8_t *r = records; r < records + len; r += EZK_RECORD)
-        printf("  %" PRIu64 " %" PRIu64 " %" PRIu64 " %" PRIu64 " %" PRIu64 "\n", number(r, 4),
-               number(r + 4, 8), number(r + 12, 4), number(r + 16, 4), number(r + 20, 4));
+    puts(title);
+    print_records(records, len);
 }
 
 /* What is seen where this list is laid over the older one. */
@@ -79,18 +56,18 @@ int main(void)
     size_t first_len = view(newer, EZK_RECORD, first);
     size_t again_len = view(first, first_len, again);
     size_t tidied_len = written(ezk_tidy(newer, EZK_RECORD, tidied, sizeof tidied));
-    print("the view of the list", first, first_len);
-    print("the view of that view", again, again_len);
+    print("the view of the list:", first, first_len);
+    print("the view of that view:", again, again_len);
 
     uint8_t plans[2][ROOM * EZK_PIECE] = {{0}};
     written(ezk_read_plan(newer, EZK_RECORD, LENGTH, BLOCK, 0, LENGTH, plans[0], sizeof *plans));
     written(ezk_read_plan(first, first_len, LENGTH, BLOCK, 0, LENGTH, plans[1], sizeof *plans));
     puts(memcmp(plans[0], plans[1], sizeof *plans) ? "read by other plans" : "read by one plan");
 
-    over_older("the list over slice 9", newer, EZK_RECORD);
-    over_older("the tidied list over slice 9", tidied, tidied_len);
-    over_older("the view over slice 9", first, first_len);
-    compacted("the list compacted", newer, EZK_RECORD);
-    compacted("the view compacted", first, first_len);
+    over_older("the list over slice 9:", newer, EZK_RECORD);
+    over_older("the tidied list over slice 9:", tidied, tidied_len);
+    over_older("the view over slice 9:", first, first_len);
+    compacted("the list compacted:", newer, EZK_RECORD);
+    compacted("the view compacted:", first, first_len);
     return 0;
 }

@@ -1,10 +1,7 @@
 /* Compacts the first records of a list, with a store of objects in memory. */
-#include <inttypes.h>
-#include <stdio.h>
-#include <stdlib.h>
 #include <string.h>
 
-#include "ezumokarin.h"
+#include "records.h"
 
 enum { BLOCK = 65536, LENGTH = 70200, ROOM = 20 * EZK_PIECE, OBJECTS = 6, NAME = 64 };
 
@@ -17,24 +14,6 @@ static struct {
     char name[NAME];
     uint8_t bytes[BLOCK];
 } store[OBJECTS];
-
-/* A big-endian number of `width` bytes. */
-static uint64_t number(const uint8_t *bytes, int width)
-{
-    uint64_t n = 0;
-    while (width-- > 0)
-        n = n << 8 | *bytes++;
-    return n;
-}
-
-/* Ends the program where a call was refused. */
-static void passed(uint64_t refusal, uint64_t place)
-{
-    if (!refusal)
-        return;
-    printf("refused %" PRIu64 " at %" PRIu64 "\n", refusal, place);
-    exit(1);
-}
 
 /* The bytes of the object with this name; it is made where it is missing. */
 static uint8_t *object(uint64_t id, uint64_t block, uint64_t length)
