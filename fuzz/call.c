@@ -10,7 +10,7 @@
 enum { TEXT_MAX = 160 };
 
 #define BIT(number) (1u << (number))
-#define LIST (BIT(1) | BIT(2) | BIT(3) | BIT(4) | BIT(5) | BIT(6))
+#define LIST (BIT(1) | BIT(2) | BIT(3) | BIT(4) | BIT(5) | BIT(6) | BIT(16))
 
 /* What each call may refuse with. */
 static const struct {
@@ -132,7 +132,7 @@ static void check_refusal(const call *call, const answer *a)
     if (expected)
         must(call, refusal == expected, "another refusal than expected");
     else
-        must(call, !refusal || refusal >= 11, "refused without a reason");
+        must(call, !refusal || (refusal >= 11 && refusal <= 13), "refused without a reason");
 }
 
 static uint8_t *copy(const uint8_t *bytes, size_t len)

@@ -25,7 +25,7 @@ enum kind {
     KINDS
 };
 
-enum { REFUSALS = 14 }; /* with 0 for an answer */
+enum { REFUSALS = 17 }; /* with 0 for an answer; 14 and 15 are none */
 
 /* The most records of a list, and of a tidied list. */
 enum { LIST_RECORDS = 2048, TIDIED_RECORDS = 2048 };

@@ -46,10 +46,7 @@ static void again_law(const call *call, const answer *a, const answer *view)
     done_with(&plan);
 }
 
-/*
- * Every piece against the runs of the view under it. There can be several: slices of one id
- * and different sizes share the objects of their full blocks.
- */
+/* Every piece against the runs of the view under it; zeros and holes can be several. */
 void plan_law(const call *call, const answer *a)
 {
     uint64_t chunk_len = call->number[0], start = call->number[2], left = call->number[3];

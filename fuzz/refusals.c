@@ -22,6 +22,26 @@ static uint64_t record_refusal(record r)
     return r.off + r.len > r.size ? EZK_SLICE_END : 0;
 }
 
+/* Whether the record disagrees in size with the first of its slice. */
+static int two_sizes(const uint8_t *list, size_t place)
+{
+    record r = record_at(list, place);
+    size_t first = 0;
+    while (record_at(list, first).id != r.id)
+        first++;
+    return r.id && record_at(list, first).size != r.size;
+}
+
+static uint64_t sizes_refusal(const uint8_t *list, size_t records, uint64_t *place)
+{
+    for (size_t i = 0; i < records; i++)
+        if (two_sizes(list, i)) {
+            *place = i;
+            return EZK_TWO_SIZES;
+        }
+    return 0;
+}
+
 static uint64_t list_refusal(const uint8_t *list, size_t len, uint64_t *place)
 {
     if (len % EZK_RECORD)
@@ -35,7 +55,7 @@ static uint64_t list_refusal(const uint8_t *list, size_t len, uint64_t *place)
             return refusal;
         }
     }
-    return 0;
+    return sizes_refusal(list, len / EZK_RECORD, place);
 }
 
 static int block_size_allowed(uint64_t size)

@@ -93,10 +93,12 @@ static void small_lists(void)
     const record three[] = {{10 * MIB, 10, 30 * MIB, 0, 30 * MIB},
                             {20 * MIB, 11, 16 * MIB, 0, 16 * MIB},
                             {16 * MIB, 12, 10 * MIB, 0, 10 * MIB}};
-    /* One id in two sizes: two runs of the view, but one object. */
-    const record sizes[] = {{0, 11, 40 * MIB, 0, 40 * MIB}, {0, 11, 16 * MIB, 0, 160}};
+    /* One slice in two sizes, side by side and apart, the second time empty. */
+    const record sizes[] = {{0, 11, 40 * MIB, 0, 40 * MIB}, {0, 11, 16 * MIB, 0, 160}}; /* 16 */
+    const record apart[] = {{0, 11, 8, 0, 8}, {0, 0, 0, 0, 1}, {0, 11, 9, 0, 0}};       /* 16 */
     uint8_t list[3 * EZK_RECORD];
     list_seeds(AS_IS, list, list_of(list, sizes, 2));
+    list_seeds(AS_IS, list, list_of(list, apart, 3));
     list_seeds(AS_IS, list, list_of(list, sized, 2));
     for (unsigned shape = AS_IS; shape < 256; shape += shape < MANY ? 1 : 7 * SHAPES)
         list_seeds(shape, list, list_of(list, hidden, 2));

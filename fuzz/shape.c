@@ -6,9 +6,10 @@
 
 /*
  * SMALL and MANY lists have positions up to NEAR and few ids, so that much overlaps; MANY ones
- * go on from there by two positions at a time, below UNDER_ALL.
+ * go on from there by two positions at a time, below UNDER_ALL. Their slices have one size, but
+ * for a record now and then.
  */
-enum { NEAR = 64, IDS = 4, UNDER_ALL = 2 * (NEAR + RECORDS_MAX) };
+enum { NEAR = 64, IDS = 4, OTHERWISE = 64, UNDER_ALL = 2 * (NEAR + RECORDS_MAX) };
 
 static record sound(record r, enum shape shape, size_t turn)
 {
@@ -24,7 +25,8 @@ static record sound(record r, enum shape shape, size_t turn)
         r.off = 0;
     } else {
         r.off %= end - r.len + 1;
-        r.size = r.off + r.len + r.size % (end - r.off - r.len + 1);
+        r.size = shape == SOUND ? r.off + r.len + r.size % (end - r.off - r.len + 1)
+                                : NEAR + (r.size % OTHERWISE == 1);
     }
     return r;
 }
@@ -40,7 +42,7 @@ static void shape_list(call *call, uint8_t *bytes, enum shape shape, size_t many
         record r = sound(record_at(given, i % records), shape, i / records);
         /* A first record under all others: the tidied list can be longer than the list. */
         if (shape == MANY && i == 0 && r.id)
-            r = (record){0, r.id, UNDER_ALL, 0, UNDER_ALL};
+            r = (record){0, IDS + r.id, UNDER_ALL, 0, UNDER_ALL};
         to = put_record(to, r);
     }
     call->len = (size_t)(to - bytes);

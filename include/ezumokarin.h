@@ -10,9 +10,9 @@
  * A pointer must be good for as many bytes as the length beside it; with length 0 it may
  * be NULL. Buffers to be written may overlap neither each other nor the inputs.
  *
- * Refusals. `place` is the place of the record in its list, counted from 0, for 3 to 6;
- * for all others it is 0. Where several fit, the first in this order is given:
- * 7, 8, 1, 2, then the first bad record and in it 3, 4, 5, 6; then 10, 9, 13, 11, 12.
+ * Refusals. `place` is the place of the record in its list, counted from 0, for 3 to 6 and
+ * 16; for all others it is 0. Where several fit, the first in this order is given:
+ * 7, 8, 1, 2, then the first bad record and in it 3, 4, 5, 6; then 16, 10, 9, 13, 11, 12.
  * A block size is allowed if it is a power of two from 65,536 to 16,777,216.
  *
  *   EZK_LIST_LENGTH     1  list length is no multiple of 24
@@ -30,6 +30,7 @@
  *                          compaction)
  *   EZK_FORM           13  a name or key not of its form, or numbers to be written that the
  *                          form doesn't allow
+ *   EZK_TWO_SIZES      16  an earlier record has this id, not 0, and another size
  */
 #ifndef EZUMOKARIN_H
 #define EZUMOKARIN_H
@@ -55,7 +56,8 @@ enum {
     EZK_FIRST_RECORDS = 10,
     EZK_TIDIED_RECORDS = 11,
     EZK_BUFFER = 12,
-    EZK_FORM = 13
+    EZK_FORM = 13,
+    EZK_TWO_SIZES = 16
 };
 
 /* Bytes of a chunk, of a slice record, of a piece of a plan, and of a TKV chunk key. */
@@ -70,7 +72,8 @@ enum {
  * A slice record has 24 bytes, big-endian: pos (4), id (8), size (4), off (4), len (4).
  * It covers positions pos up to, but without, pos + len. In a list, id 0 is zeros, with off
  * 0 and a size of 0 or len; any other id is slice bytes from slice offset off on, of a slice
- * of size bytes. Records stand in order of writing; a later one wins.
+ * of size bytes. Records stand in order of writing; a later one wins. All records of a list
+ * that name one slice give it one size.
  *
  * Slices are stored in blocks, and one block size B holds for a whole volume. Slice offset o
  * lies in block o / B at place o % B. Block i of a slice of size bytes has min(B, size - i * B)
@@ -121,7 +124,7 @@ typedef struct ezk_chunk_key {
 
 /*
  * Checks a list; count is its number of records.
- * Refusals, in order: 1, 2, 3 to 6.
+ * Refusals, in order: 1, 2, 3 to 6, 16.
  */
 ezk_answer ezk_check(const uint8_t *list, size_t list_len);
 
@@ -135,14 +138,14 @@ ezk_answer ezk_check(const uint8_t *list, size_t list_len);
  * chunk_len. But its uncovered bytes have become zeros, and hide what they are laid over. A
  * list that leaves them uncovered is the tidied one.
  *
- * Refusals, in order: 7, 1, 2, 3 to 6, 12.
+ * Refusals, in order: 7, 1, 2, 3 to 6, 16, 12.
  */
 ezk_answer ezk_view(const uint8_t *list, size_t list_len, uint64_t chunk_len,
                     uint8_t *out, size_t out_len);
 
 /*
  * Writes the tidied list: the view of the whole chunk without its uncovered runs.
- * Refusals, in order: 1, 2, 3 to 6, 11, 12.
+ * Refusals, in order: 1, 2, 3 to 6, 16, 11, 12.
  */
 ezk_answer ezk_tidy(const uint8_t *list, size_t list_len, uint8_t *out, size_t out_len);
 
@@ -150,7 +153,7 @@ ezk_answer ezk_tidy(const uint8_t *list, size_t list_len, uint8_t *out, size_t o
  * Writes the plan of a read of count bytes from start, cut to chunk_len: pieces that read
  * as zero or lie in one object at consecutive places. A start at or past chunk_len, or a
  * count of 0, gives an empty plan.
- * Refusals, in order: 7, 8, 1, 2, 3 to 6, 12.
+ * Refusals, in order: 7, 8, 1, 2, 3 to 6, 16, 12.
  */
 ezk_answer ezk_read_plan(const uint8_t *list, size_t list_len, uint64_t chunk_len,
                          uint64_t block_size, uint64_t start, uint64_t count,
@@ -169,8 +172,9 @@ ezk_answer ezk_read_plan(const uint8_t *list, size_t list_len, uint64_t chunk_le
  * a piece may go over the end of a block of the new slice. The bytes are those of the store
  * as it was before; no piece reads the new slice, so the pieces may be copied in any order.
  * Store the new list only once the whole new slice is stored. From then on the old list and
- * the new one read the same bytes, also with the same records appended to both.
- * Refusals, in order: 8, 1, 2, 3 to 6, 10, 9, 12.
+ * the new one read the same bytes, also with the same records appended to both. Passed to a
+ * call, a list with its appended records must be accepted as one: refusal 16 looks at all.
+ * Refusals, in order: 8, 1, 2, 3 to 6, 16, 10, 9, 12.
  */
 ezk_compacted ezk_compact(const uint8_t *list, size_t list_len, uint64_t block_size,
                           uint64_t k, uint64_t new_id, uint8_t *plan, size_t plan_len,

@@ -15,7 +15,8 @@ use Rattle.codec.specs.Fixed.{bigEndian, numberAt}
 use Rattle.codec.specs.Groups.{groupsFrom}
 use Rattle.slices.specs.Cover.{covers, given, layer, over, cover}
 use Rattle.slices.specs.Record.{encode, encodeAll, decode, recordAt, recordsFrom, count, records}
-use Rattle.slices.specs.Refusals.{notWhole, tooMany, pastChunk, tooLarge, zerosWithSlice, pastSlice, rowsFrom, listRows, checkOutcome, chunkTooLong}
+use Rattle.slices.specs.Refusals.{notWhole, tooMany, pastChunk, tooLarge, zerosWithSlice, pastSlice, otherSize, twoSizes, rowsFrom, sizeRows, listRows, checkOutcome, chunkTooLong}
+use Rattle.slices.proofs.Laws.Sizes.{agreed-all}
 use Rattle.runs.specs.Runs.{join, runs}
 use Rattle.views.specs.View.{next, viewRuns, asRecord, runRecord, view}
 use Rattle.views.specs.Calls.{viewBytes, viewRows, viewOutcome}
@@ -36,8 +37,9 @@ one : (bs : List ℕ) → length bs ≡ 24 → All Passes (records bs) → check
 unfolding count
 one bs e p =
     let n : count bs ≡ 1 = omega arith in
-    rw n at (accepted-exactly bs .1 (record { whole = omega arith; few = omega arith; pass = p }))
+    let alone = agreed-all bs 1 (omega arith) (λ j l k m. absurd (omega arith)) in
+    rw n at (accepted-exactly bs .1 (record { whole = omega arith; few = omega arith; pass = p; one-size = alone }))
 
 pub starred-cases : All Holds table
-unfolding Holds table flatMap bigEndian numberAt chunk covers given layer over cover encode encodeAll decode recordAt groupsFrom recordsFrom count records firstOf notWhole tooMany pastChunk tooLarge zerosWithSlice pastSlice rowsFrom listRows checkOutcome join runs next viewRuns asRecord runRecord view chunkTooLong viewBytes viewRows viewOutcome decimal digitOf decimalAt scan writing reading readRedis objectAllowed objectName
+unfolding Holds table flatMap bigEndian numberAt chunk covers given layer over cover encode encodeAll decode recordAt groupsFrom recordsFrom count records firstOf notWhole tooMany pastChunk tooLarge zerosWithSlice pastSlice otherSize twoSizes rowsFrom sizeRows listRows checkOutcome join runs next viewRuns asRecord runRecord view chunkTooLong viewBytes viewRows viewOutcome decimal digitOf decimalAt scan writing reading readRedis objectAllowed objectName
 starred-cases = (refl, (refl, (one, ((λ bs e. odd bs 23 e (λ k. omega arith)), ((λ bs e. odd bs 25 e (λ k. omega arith)), (refl, (refl, (refl, (refl, (refl, (refl, (refl, (refl, (refl, tt))))))))))))))

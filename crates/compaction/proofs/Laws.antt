@@ -4,6 +4,7 @@ pub mod Scan
 pub mod Covered
 pub mod Ends
 pub mod Told
+pub mod Fresh
 pub mod NewList
 pub mod Calls
 pub mod Again

@@ -52,3 +52,7 @@ shortBuffer = 12
 -- a name or key not of the form above, or numbers to be written that the form doesn't allow
 abbrev pub notOfForm : ℕ
 notOfForm = 13
+
+-- an earlier record has this id, not 0, and another size
+abbrev pub twoSizes : ℕ
+twoSizes = 16

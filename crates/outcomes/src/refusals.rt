@@ -42,6 +42,9 @@ pub const SHORT_BUFFER: u8 = 12;
 // A name or key is not of its form, or the form does not allow the numbers to be written.
 pub const NOT_OF_FORM: u8 = 13;
 
+// An earlier record has this id, not 0, and another size.
+pub const TWO_SIZES: u8 = 16;
+
 // The refusal of a call as a whole, at place 0.
 pub fn refusal(number: u8) -> Refusal
     ensures { λ r. ⌜ r ≡ refusal number 0 ⌝ }

@@ -3,6 +3,8 @@ pub mod Record
 pub mod Ids
 pub mod Cover
 pub mod Passes
+pub mod OneSize
 pub mod Accepts
 pub mod Refusals
 pub mod Inner
+pub mod Tree

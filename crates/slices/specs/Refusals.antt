@@ -1,7 +1,7 @@
--- When a list is refused: the rows 1 to 6 of paper 01's table, in its order; and when a chunk length is, 7. Assumes nothing.
+-- When a list is refused: the rows 1 to 6 of paper 01's table, in its order, then 16 of paper 02 (L8); and when a chunk length is, 7. Assumes nothing.
 use Prim.Native.Nat.{ℕ, suc, _+_, _%_}
-use mathlib.Core.Bool.{Bool, _&&_, _||_, not}
-use mathlib.Core.List.{List, [], _∷_}
+use mathlib.Core.Bool.{Bool, false, _&&_, _||_, not}
+use mathlib.Core.List.{List, [], _∷_, _++_}
 use lib.Dec.{ltb, eqb}
 use lib.ListN.{length}
 use Rattle.slices.specs.Limits.{recordSize, chunk, maxRecords}
@@ -39,6 +39,15 @@ zerosWithSlice r = eqb (r .id) 0 && (not (eqb (r .off) 0) || (not (eqb (r .size)
 unfoldable pub pastSlice : Record → Bool
 pastSlice r = not (eqb (r .id) 0) && ltb (r .size) (r .off + r .len)
 
+-- two records are of one slice and give it two sizes
+unfoldable pub otherSize : Record → Record → Bool
+otherSize e r = not (eqb (r .id) 0) && (eqb (e .id) (r .id) && not (eqb (e .size) (r .size)))
+
+-- 16: an earlier record has this id, not 0, and another size
+unfoldable pub twoSizes : List Record → Record → Bool
+twoSizes [] r = false
+twoSizes (e ∷ earlier) r = otherSize e r || twoSizes earlier r
+
 -- 7: chunk length above 64 MiB
 unfoldable pub chunkTooLong : ℕ → Bool
 chunkTooLong l = ltb chunk l
@@ -59,9 +68,17 @@ unfoldable pub rowsFrom : ℕ → List Record → List Row
 rowsFrom at [] = []
 rowsFrom at (r ∷ rs) = recordRows at r (rowsFrom (suc at) rs)
 
--- the refusals that every call on a list has
+-- each record against those before it, with their places counted on from `at`
+unfoldable pub sizeRows : List Record → ℕ → List Record → List Row
+sizeRows earlier at [] = []
+sizeRows earlier at (r ∷ rs) = row (twoSizes earlier r) number.twoSizes at ∷ sizeRows (earlier ++ (r ∷ [])) (suc at) rs
+
+-- the refusals that every call on a list has: 16 "after 3 to 6 have passed for the whole list"
 unfoldable pub listRows : List ℕ → List Row
-listRows bs = row (notWhole bs) number.notWhole 0 ∷ row (tooMany bs) number.tooMany 0 ∷ rowsFrom 0 (records bs)
+listRows bs =
+    row (notWhole bs) number.notWhole 0
+    ∷ row (tooMany bs) number.tooMany 0
+    ∷ (rowsFrom 0 (records bs) ++ sizeRows [] 0 (records bs))
 
 -- ---- the check of a list
 

@@ -3,6 +3,8 @@ pub mod check;
 pub mod cover;
 pub mod ids;
 pub mod records;
+pub mod sizes;
+pub mod tree;
 
 use outcomes::Refusal;
 

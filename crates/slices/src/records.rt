@@ -25,6 +25,14 @@ pub(crate) fn read_id(list: &[u8], i: usize) -> u64
     fixed::read_be64(list, i * RECORD + 4)
 }
 
+// The size of record i's slice.
+pub(crate) fn read_size(list: &[u8], i: usize) -> u32
+    requires { ⌜ i * recordSize + recordSize ≤ length (now list) ⌝ }
+    ensures { λ r. ⌜ r ≡ recordAt (now (list .entry)) i .size ⌝ }
+{
+    fixed::read_be32(list, i * RECORD + 12)
+}
+
 // The number of positions of record i.
 pub fn read_len(list: &[u8], i: usize) -> u32
     requires { ⌜ i * recordSize + recordSize ≤ length (now list) ⌝ }
@@ -41,7 +49,7 @@ pub fn read_record(list: &[u8], i: usize) -> Record
     let at = i * RECORD;
     let pos = read_pos(list, i);
     let id = read_id(list, i);
-    let size = fixed::read_be32(list, at + 12);
+    let size = read_size(list, i);
     let off = fixed::read_be32(list, at + 16);
     let len = read_len(list, i);
     Record {

@@ -4,6 +4,7 @@ pub mod Count
 pub mod ViewSource
 pub mod ViewFrom
 pub mod Fits
+pub mod OneSize
 pub mod RunCover
 pub mod Tidied
 pub mod Steps

@@ -118,6 +118,22 @@ impl Location {
 
 /// The records of an acceptable list. Both programs check what the archive checks.
 pub fn checked(list: &[u8]) -> Option<&[RecordBytes]> {
+    passed(list).filter(|records| one_size(records))
+}
+
+/// Whether each slice has one size. Rising ids are told first: they are the commonest.
+fn one_size(records: &[RecordBytes]) -> bool {
+    let slices = records.iter().map(Record::from_bytes).filter(|record| record.id != 0);
+    let mut sizes: Vec<(u64, u32)> = slices.map(|record| (record.id, record.size)).collect();
+    if sizes.is_sorted_by(|one, next| one.0 < next.0) {
+        return true;
+    }
+    sizes.sort_unstable();
+    sizes.windows(2).all(|pair| pair[0].0 != pair[1].0 || pair[0].1 == pair[1].1)
+}
+
+/// The records of a list that meets none of refusals 1 to 6.
+pub fn passed(list: &[u8]) -> Option<&[RecordBytes]> {
     let (records, rest) = list.as_chunks::<RECORD>();
     if !rest.is_empty() || records.len() > LIST_RECORDS {
         return None;

@@ -16,7 +16,8 @@ fn list(rng: &mut Rng) -> Vec<u8> {
 fn record(rng: &mut Rng) -> Record {
     let pos = 65_500 + rng.below(80) as u32;
     let len = rng.below(30) as u32;
-    let (id, size) = (rng.below(3), 131_072 + rng.below(2) as u32);
+    let id = rng.below(3);
+    let size = 131_071 + id as u32;
     if id == 0 {
         return Record { pos, id, size: rng.pick(&[0, len]), off: 0, len };
     }
@@ -70,6 +71,22 @@ fn lists_are_accepted_as_by_the_second_program() {
         let list = any_record(&mut rng);
         assert_eq!(checked(&list).is_some(), second::check(&list).is_ok(), "{list:?}");
         accepted += u32::from(checked(&list).is_some());
+    }
+    assert!((1_000..9_000).contains(&accepted));
+}
+
+/// Short lists of few slices, some of which have two sizes.
+#[test]
+fn sizes_are_accepted_as_by_the_second_program() {
+    let mut rng = Rng::new(5);
+    let mut accepted = 0;
+    for _ in 0..10_000 {
+        let slice =
+            |rng: &mut Rng| Record { size: 200_000 + rng.below(8) as u32 / 7, ..record(rng) };
+        let list: Vec<u8> = (0..rng.below(6)).flat_map(|_| bytes(slice(&mut rng))).collect();
+        let passes = checked(&list).is_some();
+        assert_eq!(passes, second::check(&list).is_ok(), "{list:?}");
+        accepted += u32::from(passes);
     }
     assert!((1_000..9_000).contains(&accepted));
 }

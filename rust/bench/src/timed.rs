@@ -4,10 +4,10 @@ use std::hint::black_box;
 
 use ezumokarin as archive;
 
-use crate::lists::{list, SHAPES};
+use crate::lists::{list, ordered, ORDERS, SHAPES};
 use crate::measure::medians;
 use crate::plans::{compact, read_plan};
-use crate::record::{CHUNK, LIST_RECORDS, PIECE, RECORD};
+use crate::record::{passed, CHUNK, LIST_RECORDS, PIECE, RECORD};
 use crate::{texts, tree, walk};
 use rng::Rng;
 
@@ -35,6 +35,11 @@ pub fn all() -> Result<Vec<Row>, String> {
             for records in SIZES {
                 rows.push(with_list(call, shape, records)?);
             }
+        }
+    }
+    for order in ORDERS {
+        for records in SIZES {
+            rows.push(check(order, records)?);
         }
     }
     for records in SIZES {
@@ -100,6 +105,18 @@ fn with_list(call: &'static str, shape: &'static str, records: usize) -> Result<
     let (mut a, mut w, mut t) = (timed(by_archive), timed(by_walk), timed(by_tree));
     let times = medians(&mut [&mut a, &mut w, &mut t]);
     Ok(Row { call, shape, records, archive: times[0], walk: times[1], tree: Some(times[2]) })
+}
+
+/// The whole check beside refusals 1 to 6 alone in plain Rust.
+fn check(order: &'static str, records: usize) -> Result<Row, String> {
+    let list = ordered(order, records);
+    if archive::check(&list) != Ok(records) || passed(&list).map(<[_]>::len) != Some(records) {
+        return Err(format!("check, ids {order}, {records} records: the programs differ"));
+    }
+    let mut a = || _ = black_box(archive::check(black_box(&list)));
+    let mut w = || _ = black_box(passed(black_box(&list)));
+    let times = medians(&mut [&mut a, &mut w]);
+    Ok(Row { call: "check", shape: order, records, archive: times[0], walk: times[1], tree: None })
 }
 
 /// Slice numbers of every length.

@@ -11,8 +11,17 @@ const MIB: u64 = 1_048_576;
 const BLOCK: u64 = 4_194_304;
 
 pub fn all() -> Vec<Call> {
-    [lists(), zero_records(), list_of_000(), tidied_to_the_limit(), fed_back(), names(), keys()]
-        .concat()
+    [
+        lists(),
+        zero_records(),
+        sizes(),
+        list_of_000(),
+        tidied_to_the_limit(),
+        fed_back(),
+        names(),
+        keys(),
+    ]
+    .concat()
 }
 
 fn list(rows: &[(u64, u64, u64, u64, u64)]) -> Vec<u8> {
@@ -57,6 +66,26 @@ fn zero_records() -> Vec<Call> {
         calls.extend(with(list(&[(0, 7, 20, 0, 20), zeros])));
     }
     calls
+}
+
+/// One slice in one size and in two: side by side, apart, empty, behind another slice's second
+/// size, before a bad record; and zeros, which are of no slice.
+fn sizes() -> Vec<Call> {
+    let (small, large, other) = ((0, 7, 9, 0, 9), (0, 7, 10, 0, 9), (3, 8, 10, 0, 1));
+    [
+        &[small, other, small][..],
+        &[small, large],
+        &[large, other, small],
+        &[small, (0, 7, 10, 0, 0)],
+        &[(0, 7, 0, 0, 0), small],
+        &[small, other, (3, 8, 9, 0, 1), large],
+        &[small, large, (0, 7, 10, 4, 7)],
+        &[small, (0, 7 + (1 << 32), 10, 0, 9), (0, 7 << 32, 10, 0, 9)],
+        &[(0, 0, 0, 0, 8), (0, 0, 8, 0, 8), (0, 0, 9, 0, 9)],
+    ]
+    .into_iter()
+    .flat_map(|rows| with(list(rows)))
+    .collect()
 }
 
 /// Views as lists; the last has one record too many.

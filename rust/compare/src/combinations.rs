@@ -11,7 +11,7 @@ use crate::tally::Tally;
 use faulty::{faulty_list, FIRST_ID};
 
 /// The written order; 3 to 6 stand for the first bad record.
-const ORDER: [u64; 13] = [7, 8, 1, 2, 3, 4, 5, 6, 10, 9, 13, 11, 12];
+const ORDER: [u64; 14] = [7, 8, 1, 2, 3, 4, 5, 6, 16, 10, 9, 13, 11, 12];
 const BLOCK_SIZE: u64 = 65_536;
 const NEW_ID: u64 = 99;
 
@@ -72,14 +72,14 @@ fn room(short: bool) -> Room {
 }
 
 fn check(tally: &mut Tally, variant: usize) {
-    for faults in sets(&[1, 2, 3, 4, 5, 6]) {
+    for faults in sets(&[1, 2, 3, 4, 5, 6, 16]) {
         let (list, bad) = faulty_list(faults, variant);
         expect(tally, &Call::Check { list }, faults.first(bad));
     }
 }
 
 fn view(tally: &mut Tally, variant: usize) {
-    for faults in sets(&[7, 1, 2, 3, 4, 5, 6, 12]) {
+    for faults in sets(&[7, 1, 2, 3, 4, 5, 6, 16, 12]) {
         let (list, bad) = faulty_list(faults, variant);
         let chunk_len = chunk_len(faults, variant);
         let out = room(faults.has(12));
@@ -88,7 +88,7 @@ fn view(tally: &mut Tally, variant: usize) {
 }
 
 fn tidy(tally: &mut Tally, variant: usize) {
-    for faults in sets(&[1, 2, 3, 4, 5, 6, 11, 12]) {
+    for faults in sets(&[1, 2, 3, 4, 5, 6, 16, 11, 12]) {
         let (list, bad) = faulty_list(faults, variant);
         let out = room(faults.has(12));
         expect(tally, &Call::Tidy { list, out }, faults.first(bad));
@@ -96,7 +96,7 @@ fn tidy(tally: &mut Tally, variant: usize) {
 }
 
 fn read_plan(tally: &mut Tally, variant: usize) {
-    for faults in sets(&[7, 8, 1, 2, 3, 4, 5, 6, 12]) {
+    for faults in sets(&[7, 8, 1, 2, 3, 4, 5, 6, 16, 12]) {
         let (list, bad) = faulty_list(faults, variant);
         let chunk_len = chunk_len(faults, variant);
         let block_size = block_size(faults, variant);
@@ -108,7 +108,7 @@ fn read_plan(tally: &mut Tally, variant: usize) {
 }
 
 fn compact(tally: &mut Tally, variant: usize) {
-    for faults in sets(&[8, 1, 2, 3, 4, 5, 6, 10, 9, 12]) {
+    for faults in sets(&[8, 1, 2, 3, 4, 5, 6, 16, 10, 9, 12]) {
         let (list, bad) = faulty_list(faults, variant);
         let records = (list.len() / RECORD) as u64;
         let k = if faults.has(10) { [records + 1, u64::MAX][variant % 2] } else { 2 };

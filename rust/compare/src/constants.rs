@@ -67,7 +67,12 @@ fn of_lists() -> Vec<(&'static str, u64)> {
         ("EZK_SLICE_SIZE", one(0, 7, CHUNK + 1, 0, 1)),
         ("EZK_ZERO_RECORD", one(0, 0, 1, 0, 8)),
         ("EZK_SLICE_END", one(0, 7, 10, 4, 7)),
+        ("EZK_TWO_SIZES", number(second::check(&two_sizes()))),
     ]
+}
+
+fn two_sizes() -> Vec<u8> {
+    [10, 11].iter().flat_map(|size| Record::new(0, 7, *size, 0, 1).to_bytes()).collect()
 }
 
 fn of_calls() -> Vec<(&'static str, u64)> {

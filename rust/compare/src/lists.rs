@@ -1,25 +1,52 @@
 //! Random lists of several shapes.
 
+use std::collections::HashMap;
 use std::iter;
 
 use second::limits::{CHUNK, LIST_RECORDS, TIDIED_RECORDS};
 use second::Record;
 
-use crate::numbers;
+use crate::{ids, numbers};
 use rng::Rng;
 
 /// The shape with about twice as many runs as records.
 const COMB: u64 = 8;
+/// The shape with about as many slices as records.
+const SLICES: u64 = 10;
 
 /// A list that is mostly sound; `mutate::list` spoils some.
 pub fn sound(rng: &mut Rng) -> Vec<u8> {
-    let shape = rng.below(10);
-    let count = records(rng, shape);
-    let list = (0..count).flat_map(|i| record(rng, shape, i, count).to_bytes()).collect();
+    let list = some_records(rng).iter().flat_map(Record::to_bytes).collect();
     if rng.once_in(8) {
         return fed_back(rng, list);
     }
     list
+}
+
+/// Records that pass 3 to 6. Now and then a slice keeps the several sizes of its shape.
+fn some_records(rng: &mut Rng) -> Vec<Record> {
+    let shape = rng.below(11);
+    let count = records(rng, shape);
+    if shape == SLICES {
+        return ids::many_slices(rng, count);
+    }
+    let mut records: Vec<Record> = (0..count).map(|i| record(rng, shape, i, count)).collect();
+    if !rng.once_in(8) {
+        one_size(&mut records);
+    }
+    records
+}
+
+/// Gives all records of a slice the largest of its sizes.
+fn one_size(records: &mut [Record]) {
+    let mut sizes: HashMap<u64, u64> = HashMap::new();
+    for record in records.iter() {
+        let size = sizes.entry(record.id).or_default();
+        *size = record.size.max(*size);
+    }
+    for record in records.iter_mut().filter(|record| record.id != 0) {
+        record.size = sizes[&record.id];
+    }
 }
 
 /// A view of the list in its place. Without a view the list stays.
@@ -44,6 +71,7 @@ fn records(rng: &mut Rng, shape: u64) -> u64 {
     match rng.below(2_000) {
         0..=4 => LIST_RECORDS as u64 - 8 + rng.below(17),
         5..=40 if shape == COMB => TIDIED_RECORDS as u64 / 2 - 32 + rng.below(80),
+        5..=160 if shape == SLICES => 150 + rng.below(300),
         5..=60 => rng.below(120),
         _ => rng.below(11),
     }

@@ -11,6 +11,7 @@ mod combinations;
 mod constants;
 mod expected;
 mod header;
+mod ids;
 mod lent;
 mod lists;
 mod marks;

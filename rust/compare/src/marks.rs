@@ -1,5 +1,7 @@
 //! Kinds of lists that random calls must have met, each counted in a table of its own.
 
+use std::collections::HashSet;
+
 use second::limits::RECORD;
 use second::Record;
 
@@ -16,10 +18,13 @@ struct Mark {
     met: usize,
 }
 
-const MARKS: [Mark; 3] = [
+const MARKS: [Mark; 6] = [
     Mark { name: "random, zeros with a size", is: several_sized_zeros, met: 0 },
     Mark { name: "random, views fed back", is: view_with_holes, met: 0 },
     Mark { name: "random, zeros of other size", is: zeros_of_other_size, met: 5 },
+    Mark { name: "random, many slices", is: many_slices, met: 0 },
+    Mark { name: "random, two sizes apart", is: two_sizes_apart, met: 16 },
+    Mark { name: "random, empty of other size", is: empty_of_other_size, met: 16 },
 ];
 
 /// Counts a call that gave this refusal under every mark that its list has.
@@ -63,4 +68,31 @@ fn without_gaps(records: &[Record]) -> bool {
 fn zeros_of_other_size(records: &[Record]) -> bool {
     let near = |r: &Record| r.size != 0 && r.size.abs_diff(r.len) == 1;
     records.iter().any(|record| record.id == 0 && record.off == 0 && near(record))
+}
+
+/// More than one falls behind the id before it.
+fn many_slices(records: &[Record]) -> bool {
+    let ids: HashSet<u64> = records.iter().map(|record| record.id).collect();
+    let falls = records.windows(2).filter(|pair| pair[1].id <= pair[0].id).count();
+    ids.len() > 100 && falls > 1
+}
+
+/// One slice, and another size.
+fn disagree(earlier: &Record, record: &Record) -> bool {
+    record.id != 0 && earlier.id == record.id && earlier.size != record.size
+}
+
+/// No two neighbours disagree, and two others do.
+fn two_sizes_apart(records: &[Record]) -> bool {
+    let any = |i: usize| records[..i].iter().any(|earlier| disagree(earlier, &records[i]));
+    let side_by_side = records.windows(2).any(|pair| disagree(&pair[0], &pair[1]));
+    records.len() < 200 && !side_by_side && (0..records.len()).any(any)
+}
+
+/// Without its empty records the list has one size a slice.
+fn empty_of_other_size(records: &[Record]) -> bool {
+    let some: Vec<&Record> = records.iter().filter(|record| record.len != 0).collect();
+    let empty = records.iter().filter(|record| record.len == 0);
+    let pairs = |record: &&Record| some.iter().any(|other| disagree(other, record));
+    records.len() < 200 && empty.clone().any(|record| pairs(&record)) && !some.iter().any(pairs)
 }

@@ -7,7 +7,7 @@ use rng::Rng;
 
 /// Changes a list in one way, or leaves it as it is.
 pub fn list(rng: &mut Rng, list: &mut Vec<u8>) {
-    match rng.below(24) {
+    match rng.below(26) {
         0 => one_record(rng, list, field),
         1 => byte(rng, list),
         2 => list.truncate(rng.below(list.len() as u64 + 1) as usize),
@@ -20,6 +20,7 @@ pub fn list(rng: &mut Rng, list: &mut Vec<u8>) {
             *list = rng.bytes(length);
         }
         5 => one_record(rng, list, zero_record),
+        6 => repeated(rng, list),
         _ => {}
     }
 }
@@ -53,6 +54,24 @@ fn zero_record(rng: &mut Rng, record: &mut [u8]) {
     record[4..12].fill(0);
     record[12..16].copy_from_slice(&size.to_be_bytes());
     record[16..20].copy_from_slice(&rng.pick(&[0_u32, 0, 0, 1]).to_be_bytes());
+}
+
+/// Puts a copy of a record, now and then an empty one, with a size one above or below the
+/// record's behind some other.
+fn repeated(rng: &mut Rng, list: &mut Vec<u8>) {
+    let records = (list.len() / RECORD) as u64;
+    if records == 0 {
+        return;
+    }
+    let from = rng.below(records);
+    let to = from + 1 + rng.below(records - from);
+    let mut record = Record::from_bytes(&list[from as usize * RECORD..][..RECORD]);
+    record.size = rng.pick(&[record.size + 1, record.size.saturating_sub(1)]);
+    if rng.once_in(2) {
+        record.len = 0;
+    }
+    let at = to as usize * RECORD;
+    list.splice(at..at, record.to_bytes());
 }
 
 fn byte(rng: &mut Rng, bytes: &mut [u8]) {

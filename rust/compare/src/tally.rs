@@ -7,8 +7,10 @@ use crate::binding::BINDINGS;
 use crate::call::Call;
 use crate::run;
 
-/// Refusals 1 to 13, and 0 for an answer.
-const REFUSALS: usize = 14;
+/// The refusals' numbers; 0 is an answer.
+const NUMBERS: [usize; 14] = [1, 2, 3, 4, 5, 6, 7, 8, 9, 10, 11, 12, 13, 16];
+/// Above every number.
+const REFUSALS: usize = 17;
 /// Differences that are printed in full; the rest are only counted.
 const SHOWN: u64 = 10;
 
@@ -87,14 +89,14 @@ impl fmt::Display for Tally {
     fn fmt(&self, f: &mut fmt::Formatter<'_>) -> fmt::Result {
         for (origin, calls) in &self.origins {
             write!(f, "{origin:28}{:>8}", "answered")?;
-            for number in 1..REFUSALS {
+            for number in NUMBERS {
                 write!(f, "{number:>9}")?;
             }
             writeln!(f)?;
             for (name, counts) in calls {
                 write!(f, "  {name:24}{:>10}", counts[0])?;
-                for count in &counts[1..] {
-                    write!(f, "{count:>9}")?;
+                for number in NUMBERS {
+                    write!(f, "{:>9}", counts[number])?;
                 }
                 writeln!(f)?;
             }

@@ -12,12 +12,22 @@ pub struct Compacted {
     pub list: usize,
 }
 
-/// How many records an acceptable list has. Refusals: 1 to 6.
+/// How many records an acceptable list has. Refusals: 1 to 6, 16.
 ///
 /// ```
 /// use ezumokarin::{check, Refusal};
 /// assert_eq!(check(&[0; 24]), Ok(1));
 /// assert_eq!(check(&[0; 23]), Err(Refusal::ListLength));
+/// ```
+///
+/// All records of a slice give it one size:
+///
+/// ```
+/// use ezumokarin::{check, Record, Refusal};
+/// let first = Record { pos: 0, id: 7, size: 20, off: 0, len: 8 };
+/// let again = Record { pos: 8, size: 21, ..first };
+/// let list = [first.to_bytes(), again.to_bytes()].concat();
+/// assert_eq!(check(&list), Err(Refusal::TwoSizes { place: 1 }));
 /// ```
 pub fn check(list: &[u8]) -> Result<usize, Refusal> {
     counted(sys::check(list))
@@ -25,7 +35,7 @@ pub fn check(list: &[u8]) -> Result<usize, Refusal> {
 
 /// Writes the resolved view of the chunk's first `chunk_len` bytes and returns its length
 /// in bytes. A list of n records needs at most 2n + 1 records of room.
-/// Refusals: 7, 1 to 6, 12.
+/// Refusals: 7, 1 to 6, 16, 12.
 ///
 /// ```
 /// let mut out = [0; 24];
@@ -53,7 +63,7 @@ pub fn view(list: &[u8], chunk_len: u64, out: &mut [u8]) -> Result<usize, Refusa
 }
 
 /// Writes the tidied list, the view of the whole chunk without its uncovered runs, and
-/// returns its length in bytes. Refusals: 1 to 6, 11, 12.
+/// returns its length in bytes. Refusals: 1 to 6, 16, 11, 12.
 ///
 /// ```
 /// use ezumokarin::{records, tidy, Record};
@@ -71,7 +81,7 @@ pub fn tidy(list: &[u8], out: &mut [u8]) -> Result<usize, Refusal> {
 }
 
 /// Writes the plan of a read of `count` bytes from `start`, cut to the chunk length, and
-/// returns its length in bytes. Refusals: 7, 8, 1 to 6, 12.
+/// returns its length in bytes. Refusals: 7, 8, 1 to 6, 16, 12.
 ///
 /// ```
 /// use ezumokarin::{pieces, read_plan, Piece, Location, Record};
@@ -98,7 +108,7 @@ pub fn read_plan(
 }
 
 /// Writes the plan that copies the first `k` records into the new slice `new_id`, and the
-/// list that has one record in their stead. Refusals: 8, 1 to 6, 10, 9, 12.
+/// list that has one record in their stead. Refusals: 8, 1 to 6, 16, 10, 9, 12.
 ///
 /// ```
 /// use ezumokarin::{compact, records, Compacted, Record};

@@ -1,10 +1,10 @@
-//! The thirteen refusals.
+//! The fourteen refusals.
 
 use std::error::Error;
 use std::fmt;
 
 /// Why a call gave no answer. Where several fit, the library gives the first in this order:
-/// 7, 8, 1, 2, then the first bad record and in it 3, 4, 5, 6; then 10, 9, 13, 11, 12.
+/// 7, 8, 1, 2, then the first bad record and in it 3, 4, 5, 6; then 16, 10, 9, 13, 11, 12.
 ///
 /// `place` is the place of the record in its list, counted from 0.
 ///
@@ -53,10 +53,15 @@ pub enum Refusal {
     Buffer,
     /// 13: a name or key not of its form, or numbers to be written that the form doesn't allow
     Form,
+    /// 16: an earlier record has this id, not 0, and another size
+    TwoSizes {
+        /// The record.
+        place: u64,
+    },
 }
 
 impl Refusal {
-    /// The number that the library gives this refusal, 1 to 13.
+    /// The number that the library gives this refusal, 1 to 13 or 16.
     pub fn number(&self) -> u64 {
         match self {
             Refusal::ListLength => 1,
@@ -72,16 +77,18 @@ impl Refusal {
             Refusal::TidiedRecords => 11,
             Refusal::Buffer => 12,
             Refusal::Form => 13,
+            Refusal::TwoSizes { .. } => 16,
         }
     }
 
-    /// The place of the refused record; only refusals 3 to 6 have one.
+    /// The place of the refused record; only refusals 3 to 6 and 16 have one.
     pub fn place(&self) -> Option<u64> {
         match *self {
             Refusal::RecordEnd { place }
             | Refusal::SliceSize { place }
             | Refusal::ZeroRecord { place }
-            | Refusal::SliceEnd { place } => Some(place),
+            | Refusal::SliceEnd { place }
+            | Refusal::TwoSizes { place } => Some(place),
             _ => None,
         }
     }
@@ -107,6 +114,7 @@ impl Refusal {
             Refusal::Form => {
                 "a name or key not of its form, or numbers to be written that the form doesn't allow"
             }
+            Refusal::TwoSizes { .. } => "an earlier record has this id, not 0, and another size",
         }
     }
 }
@@ -128,6 +136,7 @@ pub(crate) fn passed(number: u64, place: u64) -> Result<(), Refusal> {
         11 => Refusal::TidiedRecords,
         12 => Refusal::Buffer,
         13 => Refusal::Form,
+        16 => Refusal::TwoSizes { place },
         // Only a library that doesn't belong to this crate can say more.
         _ => panic!("the library refused with number {number}, unknown to this crate"),
     })

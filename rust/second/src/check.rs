@@ -1,4 +1,4 @@
-//! Refusals 7, 8 and 1 to 6: what is wrong with the inputs of a call.
+//! Refusals 7, 8, 1 to 6 and 16: what is wrong with the inputs of a call.
 
 use crate::limits::{BLOCK_SIZE_MAX, BLOCK_SIZE_MIN, CHUNK, LIST_RECORDS, RECORD};
 use crate::{Answer, Record, Refusal};
@@ -24,7 +24,7 @@ pub fn block_size(size: u64) -> Result<(), Refusal> {
     Ok(())
 }
 
-/// The records of a list, or refusals 1, 2, then 3 to 6 of the first bad record.
+/// The records of a list, or refusals 1, 2, then 3 to 6 of the first bad record, then 16.
 pub fn records(list: &[u8]) -> Result<Vec<Record>, Refusal> {
     if !list.len().is_multiple_of(RECORD) {
         return Err(Refusal::of(1));
@@ -38,7 +38,17 @@ pub fn records(list: &[u8]) -> Result<Vec<Record>, Refusal> {
             return Err(Refusal::at(number, place));
         }
     }
+    for (place, record) in records.iter().enumerate() {
+        if records[..place].iter().any(|earlier| two_sizes(earlier, record)) {
+            return Err(Refusal::at(16, place));
+        }
+    }
     Ok(records)
+}
+
+/// One slice, and another size.
+fn two_sizes(earlier: &Record, record: &Record) -> bool {
+    record.id != 0 && earlier.id == record.id && earlier.size != record.size
 }
 
 /// The first of refusals 3 to 6 that fits a record.

@@ -11,7 +11,7 @@ pub struct Compacted {
     pub list: usize,
 }
 
-/// Refusals 8, 1, 2, 3 to 6, 10, 9, 12.
+/// Refusals 8, 1, 2, 3 to 6, 16, 10, 9, 12.
 pub fn compact(
     list: &[u8],
     block_size: u64,

@@ -20,7 +20,7 @@ pub struct Piece {
     pub len: u64,
 }
 
-/// Refusals 7, 8, 1, 2, 3 to 6, 12.
+/// Refusals 7, 8, 1, 2, 3 to 6, 16, 12.
 pub fn read_plan(
     list: &[u8],
     chunk_len: u64,
@@ -50,7 +50,8 @@ pub fn read_plan_bytes(
     Ok(plan_bytes(&records, block_size, start, end))
 }
 
-/// The bytes of the plan for positions `from` up to `to`.
+/// The bytes of the plan for positions `from` up to `to` of any records, also of a list that is
+/// refused.
 pub fn plan_bytes(records: &[Record], block_size: u64, from: u64, to: u64) -> Vec<u8> {
     pieces(records, block_size, from, to).iter().flat_map(Piece::to_bytes).collect()
 }

@@ -1,4 +1,4 @@
-//! A refusal: its number, and the place of the record for 3 to 6.
+//! A refusal: its number, and the place of the record for 3 to 6 and 16.
 
 #[derive(Clone, Copy, Debug, PartialEq, Eq)]
 pub struct Refusal {

@@ -4,12 +4,12 @@ use crate::limits::{CHUNK, TIDIED_RECORDS};
 use crate::runs::{join, parts, Run};
 use crate::{check, put, Answer, Record, Refusal, Source};
 
-/// Refusals 7, 1, 2, 3 to 6, 12.
+/// Refusals 7, 1, 2, 3 to 6, 16, 12.
 pub fn view(list: &[u8], chunk_len: u64, out: &mut [u8]) -> Answer {
     put(view_bytes(list, chunk_len), out)
 }
 
-/// Refusals 1, 2, 3 to 6, 11, 12.
+/// Refusals 1, 2, 3 to 6, 16, 11, 12.
 pub fn tidy(list: &[u8], out: &mut [u8]) -> Answer {
     put(tidy_bytes(list), out)
 }
@@ -17,9 +17,13 @@ pub fn tidy(list: &[u8], out: &mut [u8]) -> Answer {
 /// The view, however short the caller's buffer may be.
 pub fn view_bytes(list: &[u8], chunk_len: u64) -> Result<Vec<u8>, Refusal> {
     check::chunk_length(chunk_len)?;
-    let records = check::records(list)?;
-    let runs = join(parts(&records, 0, chunk_len));
-    Ok(runs.iter().flat_map(|run| written(run).to_bytes()).collect())
+    Ok(view_of(&check::records(list)?, chunk_len))
+}
+
+/// The view of any records, also of a list that is refused.
+pub fn view_of(records: &[Record], chunk_len: u64) -> Vec<u8> {
+    let runs = join(parts(records, 0, chunk_len));
+    runs.iter().flat_map(|run| written(run).to_bytes()).collect()
 }
 
 /// The tidied list, however short the caller's buffer may be.

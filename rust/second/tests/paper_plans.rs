@@ -3,13 +3,16 @@
 mod common;
 use common::*;
 use second::Location::{Object, Zeros};
-use second::{compact, read_plan, Compacted, Location, Piece};
+use second::{compact, plan_bytes, read_plan, Compacted, Location, Piece};
 
 fn plan(list: &[u8], start: u64, count: u64) -> Vec<(u64, Location, u64)> {
     let mut out = vec![0; 60_000];
     let count = read_plan(list, CHUNK, BLOCK, start, count, &mut out).expect("a plan");
-    let piece = |bytes: &[u8]| Piece::from_bytes(bytes);
-    out[..count].chunks(30).map(piece).map(|p| (p.place, p.from, p.len)).collect()
+    pieces(&out[..count])
+}
+
+fn pieces(plan: &[u8]) -> Vec<(u64, Location, u64)> {
+    plan.chunks(30).map(Piece::from_bytes).map(|p| (p.place, p.from, p.len)).collect()
 }
 
 /// A part of an object of document 000, in MiB: id, block, block length, place.
@@ -92,13 +95,18 @@ fn zeros_beside_holes_are_one_piece() {
     assert_eq!(plan(&list(&[(4, 0, 0, 0, 8)]), 0, 20), [(0, Zeros, 20)]);
 }
 
+/// Only in the definition: the calls refuse such a list.
 #[test]
 fn two_sizes_share_their_full_blocks() {
+    let defined = |list: &[u8]| pieces(&plan_bytes(&decoded(list), BLOCK, 0, 20));
     let both = list(&[(0, 7, BLOCK, 0, 10), (10, 7, 2 * BLOCK, 10, 10)]);
-    assert_eq!(plan(&both, 0, 20), [(0, object(7, 0, 4, 0), 20)]);
+    assert_eq!(defined(&both), [(0, object(7, 0, 4, 0), 20)]);
     let apart = list(&[(0, 7, 100, 0, 10), (10, 7, 101, 10, 10)]);
     let at = |length, at| Object { id: 7, block: 0, length, at };
-    assert_eq!(plan(&apart, 0, 20), [(0, at(100, 0), 10), (10, at(101, 10), 10)]);
+    assert_eq!(defined(&apart), [(0, at(100, 0), 10), (10, at(101, 10), 10)]);
+    for refused in [both, apart] {
+        assert_eq!(read_plan(&refused, CHUNK, BLOCK, 0, 20, &mut [0; 60]), Err(no_at(16, 1)));
+    }
 }
 
 #[test]

@@ -1,14 +1,18 @@
 //! The view and the plan against a walk over every position, on short lists.
 
+use std::collections::HashSet;
+
 mod common;
 use common::random::zeros_size;
 use common::*;
 use rng::Rng;
-use second::{read_plan, source_at, view, Location, Piece, Record, Source};
+use second::{plan_bytes, read_plan_bytes, view_bytes, view_of};
+use second::{source_at, Location, Piece, Record, Refusal, Source};
 
 const END: u64 = 60;
 
-/// Records of few ids, sizes and places, so that they meet often.
+/// Records of few ids, sizes and places, so that they meet often. Where a slice has two sizes the
+/// definitions still say what is seen, and the calls refuse.
 fn crowded(random: &mut Rng) -> Vec<u8> {
     let rows: Vec<Row> = (0..random.below(9)).map(|_| crowded_row(random)).collect();
     list(&rows)
@@ -57,17 +61,28 @@ fn view_is_the_cover_in_fewest_runs() {
     for _ in 0..3_000 {
         let list = crowded(&mut random);
         let chunk_len = random.below(END + 1);
-        let records = second::records(&list).expect("an accepted list");
-        let mut out = vec![0; 1_000];
-        let count = view(&list, chunk_len, &mut out).expect("a view");
+        let records = decoded(&list);
+        let out = view_of(&records, chunk_len);
         let cover: Vec<Source> = (0..chunk_len).map(|p| source_at(&records, p)).collect();
-        assert_eq!(spread(&out[..count]), cover);
-        assert_eq!(count / 24, runs_in(&cover));
-        assert!(count / 24 <= 2 * records.len() + 1);
-        for run in out[..count].chunks(24).map(Record::from_bytes) {
+        assert_eq!(spread(&out), cover);
+        assert_eq!(out.len() / 24, runs_in(&cover));
+        assert!(out.len() / 24 <= 2 * records.len() + 1);
+        for run in out.chunks(24).map(Record::from_bytes) {
             assert!(run.id != 0 || run.off == 0 && (run.size == 0 || run.size == run.len));
         }
+        answers_or_16(&records, view_bytes(&list, chunk_len), out);
     }
+}
+
+/// A call gives what the definition says, unless a slice has two sizes.
+fn answers_or_16(records: &[Record], answer: Result<Vec<u8>, Refusal>, defined: Vec<u8>) {
+    let sizes: HashSet<(u64, u64)> = records.iter().map(|r| (r.id, r.size)).collect();
+    let slices: HashSet<u64> = sizes.iter().map(|pair| pair.0).filter(|id| *id != 0).collect();
+    let one_size = sizes.iter().filter(|pair| pair.0 != 0).count() == slices.len();
+    assert_eq!(
+        answer.map_err(|refusal| refusal.number),
+        if one_size { Ok(defined) } else { Err(16) }
+    );
 }
 
 /// The location of each byte of a read, as the pieces of a plan give it.
@@ -128,13 +143,13 @@ fn plan_is_the_cover_in_fewest_pieces() {
         let list = at_an_edge(&mut random);
         let chunk_len = random.below(END + 1);
         let (start, count) = (random.below(END + 5), random.below(END + 5));
-        let records = second::records(&list).expect("an accepted list");
-        let mut out = vec![0; 2_000];
-        let written = read_plan(&list, chunk_len, 65_536, start, count, &mut out).expect("a plan");
-        let end = chunk_len.min(start + count);
+        let records = decoded(&list);
+        let end = chunk_len.min(start + count).max(start);
+        let out = plan_bytes(&records, 65_536, start, end);
         let read: Vec<Location> =
             (start..end).map(|p| lies(source_at(&records, p), 65_536)).collect();
-        assert_eq!(locations(&out[..written]), read);
-        assert_eq!(written / 30, pieces_in(&read));
+        assert_eq!(locations(&out), read);
+        assert_eq!(out.len() / 30, pieces_in(&read));
+        answers_or_16(&records, read_plan_bytes(&list, chunk_len, 65_536, start, count), out);
     }
 }

@@ -46,6 +46,60 @@ fn first_bad_record_and_in_it_the_first_refusal() {
     assert_eq!(check(&list(&[(0, 1, CHUNK + 1, CHUNK + 1, 1)])), Err(no_at(4, 0)));
 }
 
+/// One slice, one size: the place is that of the first record that disagrees with an earlier one.
+#[test]
+fn slice_has_one_size() {
+    let (small, large) = ((0, 7, 9, 0, 9), (0, 7, 10, 0, 9));
+    assert_eq!(check(&list(&[small, small, (20, 7, 9, 5, 4)])), Ok(3));
+    assert_eq!(check(&list(&[small, large])), Err(no_at(16, 1)));
+    assert_eq!(check(&list(&[large, small])), Err(no_at(16, 1)));
+    assert_eq!(check(&list(&[small, small, large, large, small])), Err(no_at(16, 2)));
+    // Neighbours or not, and whatever stands between.
+    let others = [(3, 8, 10, 0, 1), (3, 0, 0, 0, 1), (3, 9, 12, 0, 1)];
+    let apart = [&[small], &others[..], &[large], &[(0, 8, 9, 0, 1)]].concat();
+    assert_eq!(check(&list(&apart)), Err(no_at(16, 4)));
+    // Of two slices with two sizes each, the first record that disagrees.
+    assert_eq!(check(&list(&[small, others[0], (0, 8, 9, 0, 1), large])), Err(no_at(16, 2)));
+    // Ids that agree in one half are two slices.
+    assert_eq!(check(&list(&[small, (0, 7 + (1 << 32), 10, 0, 9), (0, 7 << 32, 8, 0, 1)])), Ok(3));
+}
+
+#[test]
+fn empty_records_have_sizes_too() {
+    let (slice, empty) = ((0, 7, 9, 0, 9), (0, 7, 10, 0, 0));
+    assert_eq!(check(&list(&[slice, empty])), Err(no_at(16, 1)));
+    assert_eq!(check(&list(&[empty, slice])), Err(no_at(16, 1)));
+    assert_eq!(check(&list(&[empty, empty])), Ok(2));
+    assert_eq!(check(&list(&[empty, (5, 7, 11, 0, 0)])), Err(no_at(16, 1)));
+}
+
+#[test]
+fn zeros_are_of_no_slice() {
+    assert_eq!(check(&list(&[(0, 0, 0, 0, 8), (0, 0, 8, 0, 8), (0, 0, 9, 0, 9)])), Ok(3));
+}
+
+/// A later record's 3 to 6 comes before an earlier one's 16, and 16 before the rest.
+#[test]
+fn order_of_two_sizes() {
+    let both = [(0, 7, 9, 0, 9), (0, 7, 10, 0, 9)];
+    for (number, bad) in [
+        (3, (CHUNK, 7, 9, 0, 1)),
+        (4, (0, 7, CHUNK + 1, 0, 1)),
+        (5, (0, 0, 1, 0, 8)),
+        (6, (0, 7, 9, 9, 1)),
+    ] {
+        assert_eq!(check(&list(&[both[0], both[1], bad])), Err(no_at(number, 2)));
+    }
+    let list = list(&both);
+    assert_eq!(view(&list, CHUNK + 1, &mut []), Err(no(7)));
+    assert_eq!(view(&list, CHUNK, &mut []), Err(no_at(16, 1)));
+    assert_eq!(tidy(&list, &mut []), Err(no_at(16, 1)));
+    assert_eq!(read_plan(&list, 9, BLOCK, 0, 9, &mut []), Err(no_at(16, 1)));
+    for (block_size, refusal) in [(0, no(8)), (BLOCK, no_at(16, 1))] {
+        assert_eq!(compact(&list, block_size, 3, 7, &mut [], &mut []), Err(refusal));
+    }
+}
+
 #[test]
 fn order_of_the_inputs() {
     let plan = |list: &[u8], l, b| read_plan(list, l, b, 0, 1, &mut []);

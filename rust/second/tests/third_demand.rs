@@ -7,12 +7,14 @@ use common::*;
 use rng::Rng;
 use second::limits::RECORD;
 use second::store::Store;
-use second::{compact_bytes, records, source_at, tidy_bytes, Record, Source};
+use second::{compact_bytes, source_at, tidy_bytes, Record, Source};
 
 const NEW: u64 = 9;
 
+/// As the definitions join lists: no call need take them together, since a slice may have one
+/// size in the first and another in the second.
 fn joined(first: &[u8], then: &[u8]) -> Vec<Record> {
-    records(&[first, then].concat()).expect("an accepted list")
+    decoded(&[first, then].concat())
 }
 
 #[test]
@@ -62,7 +64,7 @@ fn over(upper: Source, lower: Source) -> Source {
 fn cover_of_a_split_list_is_one_part_over_the_other() {
     let mut random = Rng::new(4);
     for _ in 0..300 {
-        let all = joined(&some_list(&mut random, 9, 4), &[]);
+        let all = decoded(&list(&some_rows(&mut random, 9, 4)));
         let (first, then) = all.split_at(random.below(all.len() as u64 + 1) as usize);
         for p in positions(&[&all], &mut random) {
             assert_eq!(source_at(&all, p), over(source_at(then, p), source_at(first, p)));

@@ -1,17 +1,21 @@
--- The records of the new list pass refusals 3 to 6 and are of 24 bytes, so the list that is written is the list that is read. Assumes nothing.
+-- The records of the new list pass refusals 3 to 6, each slice has one size where it had one, and they are of 24 bytes, so the list that is written
+-- is the list that is read. Assumes nothing.
 use Prim.Native.Nat.{ℕ, _-_, _^_, _<_, _≤_}
 use native.Mathlib.Omega.{arith}
 use native.Mathlib.Decide.{decLt}
 use mathlib.Core.Path.{_≡_, refl, ap, _∙_}
 use mathlib.Core.Bool.{Bool, true, false, cond}
 use mathlib.Core.Logic.{_≢_}
-use mathlib.Core.List.{List, [], _∷_, append-nil, flatMap}
+use mathlib.Core.List.{List, [], _∷_, _++_, append-nil, flatMap}
 use borrow.Author.Tests.{lt-ltb, le-ltb}
 use lib.ListN.{length, take, drop}
 use Rattle.codec.specs.All.{All}
 use Rattle.slices.specs.Limits.{recordSize}
 use Rattle.slices.specs.Record.{Fits, records, encode, encodeAll}
 use Rattle.slices.specs.Passes.{Passes}
+use Rattle.slices.specs.OneSize.{OneSize}
+use Rattle.slices.proofs.Laws.Ids.{Fresh}
+use Rattle.slices.proofs.Laws.OneSize.{Sized, sizesOf, one-size-table, table-one-size, one-size-new}
 use Rattle.slices.proofs.Laws.Record.{records-back, length-encode}
 use Rattle.slices.proofs.Laws.Refusals.{passes-fits}
 use Rattle.compaction.specs.Span.{coversNothing}
@@ -40,6 +44,18 @@ module _ (id : ℕ) (nz : id ≢ 0) where
   unfolding newList
   new-list-passes rs k h =
       all-append Passes (standIn (take k rs) id) (drop k rs) (stand-in-has Passes new-passes (take k rs)) (all-drop Passes k rs h)
+
+  -- the rest of the list keeps its sizes, and the new slice has one
+  pub new-list-one-size : (rs : List Record) (k : ℕ) → Fresh id rs → OneSize rs → OneSize (newList rs k id)
+  unfolding newList standIn newRecord
+  new-list-one-size rs k n h = go (coversNothing (take k rs))
+    where
+      rest : OneSize (drop k rs)
+      rest = table-one-size (sizesOf rs) (drop k rs) (all-drop (Sized (sizesOf rs)) k rs (one-size-table rs h))
+
+      go : (b : Bool) → OneSize (cond b [] (newRecord (take k rs) id ∷ []) ++ drop k rs)
+      go true = rest
+      go false = one-size-new (newRecord (take k rs) id) (drop k rs) (all-drop (λ (e : Record). e .id ≢ id) k rs n) rest
 
   module _ (wide : id < 2 ^ 64) where
     new-id : (xs : List Record) → newRecord xs id .id < 2 ^ 64

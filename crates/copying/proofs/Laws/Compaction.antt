@@ -20,7 +20,7 @@ use Rattle.compaction.specs.Compaction.{extent, planOf, compactionPlan, planByt
 use Rattle.copying.specs.Copy.{Copies, Copied}
 use Rattle.copying.specs.ThirdDemand.{Sound, Allowed}
 use Rattle.codec.proofs.Laws.All.{all-take}
-use Rattle.copying.proofs.Laws.Fresh.{not-in-use}
+use Rattle.compaction.proofs.Laws.Fresh.{not-in-use}
 use Rattle.copying.proofs.Laws.Reads.{pieces-old, pieces-law}
 use Rattle.compaction.proofs.Laws.NewList.{new-list-back}
 use Rattle.slices.specs.declared.Record.{Record}

@@ -6,34 +6,12 @@ use mathlib.Core.Bool.{Bool, true, false, cond}
 use mathlib.Core.Logic.{_≢_}
 use mathlib.Core.List.{List, [], _∷_}
 use lib.Dec.{eqb}
-use borrow.Author.Tests.{eqb-false}
-use Rattle.codec.specs.All.{All}
-use Rattle.codec.proofs.Laws.Bools.{or-none}
 use Rattle.slices.specs.Cover.{cover, over, layer, given, covers}
 use Rattle.plans.specs.Location.{location, locationAt}
-use Rattle.slices.specs.Ids.{stands}
-use Rattle.compaction.specs.Calls.{idInUse}
+use Rattle.slices.proofs.Laws.Ids.{Fresh}
 use Rattle.slices.specs.declared.Record.{Record}
 use Rattle.slices.specs.declared.Source.{Source}
 use Rattle.slices.specs.declared.Source.the-variants.{Nothing, Zero, Byte}
-
--- the id stands in none of the records
-abbrev pub Fresh : ℕ → List Record → Type 0
-Fresh id rs = All (λ (r : Record). r .id ≢ id) rs
-
-not-stands : (id : ℕ) (rs : List Record) → stands id rs ≡ false → Fresh id rs
-unfolding stands
-not-stands id [] e = tt
-not-stands id (r ∷ rs) e =
-    let h = or-none (eqb (r .id) id) (stands id rs) e in
-    (eqb-false (r .id) id (h .0), not-stands id rs (h .1))
-
--- what refusal 9 leaves
-pub not-in-use : (id : ℕ) (rs : List Record) → idInUse id rs ≡ false → (id ≢ 0) × Fresh id rs
-unfolding idInUse
-not-in-use id rs e =
-    let h = or-none (eqb id 0) (stands id rs) e in
-    (eqb-false id 0 (h .0), not-stands id rs (h .1))
 
 -- a source that is no byte of the id's slices
 abbrev Avoids : ℕ → Source → Type 0

@@ -20,7 +20,8 @@ use Rattle.compaction.specs.Compaction.{extent, planOf, newRecord, standIn}
 use Rattle.copying.specs.Copy.{Copies}
 use Rattle.compaction.proofs.Laws.Span.{Spans, spans, nothing-covered}
 use Rattle.copying.proofs.Laws.Held.{plan-held}
-use Rattle.copying.proofs.Laws.Fresh.{Fresh, fresh-apart}
+use Rattle.slices.proofs.Laws.Ids.{Fresh}
+use Rattle.copying.proofs.Laws.Fresh.{fresh-apart}
 use Rattle.slices.specs.declared.Record.{Record}
 use Rattle.slices.specs.declared.Source.{Source}
 use Rattle.slices.specs.declared.Source.the-variants.{Nothing, Byte}

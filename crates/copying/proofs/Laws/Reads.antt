@@ -13,7 +13,7 @@ use Rattle.plans.specs.Store.{Store, fetch, reads}
 use Rattle.compaction.specs.Compaction.{extent, compactionPlan, standIn, newList}
 use Rattle.copying.specs.Copy.{Copies}
 use Rattle.codec.proofs.Laws.All.{all-take}
-use Rattle.copying.proofs.Laws.Fresh.{Fresh}
+use Rattle.slices.proofs.Laws.Ids.{Fresh}
 use Rattle.copying.proofs.Laws.NewSlice.{fresh-reads, stand-in-reads}
 use Rattle.slices.specs.declared.Record.{Record}
 use Rattle.slices.specs.declared.Source.{Source}

@@ -19,8 +19,10 @@ use Rattle.slices.specs.Passes.{Passes}
 use Rattle.slices.specs.Accepts.{Accepts}
 use Rattle.outcomes.specs.Numbers as number
 use Rattle.outcomes.specs.Outcome.{Outcome, refused, done, refusal, Row, firstOf, NoneHolds, Given}
-use Rattle.slices.specs.Refusals.{notWhole, tooMany, pastChunk, tooLarge, zerosWithSlice, pastSlice, recordRows, rowsFrom, listRows, checkOutcome, checked}
-use Rattle.slices.specs.Inner.{fault}
+use Rattle.slices.specs.Refusals.{notWhole, tooMany, pastChunk, tooLarge, zerosWithSlice, pastSlice, recordRows, rowsFrom, sizeRows, listRows, checkOutcome, checked}
+use Rattle.slices.specs.Inner.{fault, sizeOutcome}
+use Rattle.codec.proofs.Laws.All.{all-append, all-left, all-right}
+use Rattle.slices.proofs.Laws.OneSize.{none-one-size, one-size-none}
 use Rattle.outcomes.proofs.Laws.Outcome.{firstOf-append, none-passes, done-none, stops, row-holds, row-passes, refused-exactly, answered-exactly}
 use Rattle.slices.specs.declared.Record.{Record}
 use Rattle.outcomes.specs.declared.Refusal.{Refusal}
@@ -130,6 +132,18 @@ module _ (r : Record) where
         unfolding fault pastChunk tooLarge zerosWithSlice pastSlice
         fault-0-slice e = rw (le-ltb chunk (r .pos + r .len) a, le-ltb chunk (r .size) b, ne-eqb (r .id) 0 z, le-ltb (r .size) (r .off + r .len) e)
 
+-- a record without one passes
+pub clean-passes : (r : Record) → fault r ≡ 0 → Passes r
+unfolding fault
+clean-passes r h = none-pass r 0 (go (pastChunk r) (tooLarge r) (zerosWithSlice r) (pastSlice r) h)
+  where
+    go : (a b c d : Bool) → _≡_ {A = ℕ} (cond a 3 (cond b 4 (cond c 5 (cond d 6 0)))) 0 → (a ≡ false) × ((b ≡ false) × ((c ≡ false) × ((d ≡ false) × Unit {0})))
+    go true b c d e = absurd (omega arith)
+    go false true c d e = absurd (omega arith)
+    go false false true d e = absurd (omega arith)
+    go false false false true e = absurd (omega arith)
+    go false false false false e = (refl, (refl, (refl, (refl, tt))))
+
 -- ---- the check, record by record
 
 -- what a record's rows give: its fault, or what follows
@@ -147,9 +161,9 @@ fault-rows r at rest o = go (pastChunk r) (tooLarge r) (zerosWithSlice r) (pastS
     go false false false true = refl
     go false false false false = refl
 
--- the check of n records, of which those before i are passed
+-- the check of the records from i on, where those before pass 3 to 6, and then of all for 16
 unfoldable pub checkFrom : List ℕ → ℕ → Outcome ℕ
-checkFrom bs i = firstOf (rowsFrom i (recordsFrom bs i (count bs - i))) (done (count bs))
+checkFrom bs i = firstOf (rowsFrom i (recordsFrom bs i (count bs - i))) (sizeOutcome bs)
 
 module _ (bs : List ℕ) where
   pub check-1 : length bs % recordSize ≢ 0 → checkOutcome bs ≡ refused (refusal number.notWhole 0)
@@ -161,10 +175,12 @@ module _ (bs : List ℕ) where
   check-2 h l = row-passes _ _ _ _ _ (rw (eq-eqb (length bs % recordSize) 0 h)) ∙ row-holds _ _ _ _ _ (lt-ltb maxRecords (count bs) l)
 
   pub check-start : length bs % recordSize ≡ 0 → count bs ≤ maxRecords → checkOutcome bs ≡ checkFrom bs 0
-  unfolding checkOutcome listRows notWhole tooMany records checkFrom
+  unfolding checkOutcome listRows notWhole tooMany records checkFrom sizeOutcome
   check-start h l =
       let k : count bs - 0 ≡ count bs = omega arith in
-      row-passes _ _ _ _ _ (rw (eq-eqb (length bs % recordSize) 0 h)) ∙ row-passes _ _ _ _ _ (le-ltb maxRecords (count bs) l) ∙ rw k
+      row-passes _ _ _ _ _ (rw (eq-eqb (length bs % recordSize) 0 h)) ∙ row-passes _ _ _ _ _ (le-ltb maxRecords (count bs) l)
+      ∙ firstOf-append (rowsFrom 0 (recordsFrom bs 0 (count bs))) (sizeRows [] 0 (recordsFrom bs 0 (count bs))) (done (count bs))
+      ∙ rw k
 
   module _ (i : ℕ) where
     pub check-next : i < count bs → fault (recordAt bs i) ≡ 0 → checkFrom bs i ≡ checkFrom bs (i + 1)
@@ -179,7 +195,7 @@ module _ (bs : List ℕ) where
         let k : count bs - i ≡ suc (count bs - suc i) = omega arith in
         rw (k, fault-rows (recordAt bs i) i, ne-eqb (fault (recordAt bs i)) 0 e)
 
-    pub check-end : count bs ≤ i → checkFrom bs i ≡ done (count bs)
+    pub check-end : count bs ≤ i → checkFrom bs i ≡ sizeOutcome bs
     unfolding checkFrom rowsFrom recordsFrom groupsFrom firstOf
     check-end h =
         let k : count bs - i ≡ 0 = omega arith in
@@ -200,13 +216,18 @@ pass-rows at (r ∷ rs) h =
     let n = pass-none r at (h .0) in
     (n .0, (n .1 .0, (n .1 .1 .0, (n .1 .1 .1 .0, pass-rows (suc at) rs (h .1)))))
 
+-- a row does not hold
+abbrev clear : Row → Type 0
+clear r = r .test ≡ false
+
 pub none-accepts : (bs : List ℕ) → NoneHolds (listRows bs) → Accepts bs
 unfolding listRows notWhole tooMany
 none-accepts bs h =
     record {
       whole = not-false (eqb (length bs % recordSize) 0) refl (h .0);
       few = ltb-false maxRecords (count bs) (h .1 .0);
-      pass = rows-pass 0 (records bs) (h .1 .1);
+      pass = rows-pass 0 (records bs) (all-left clear (rowsFrom 0 (records bs)) (sizeRows [] 0 (records bs)) (h .1 .1));
+      one-size = none-one-size (records bs) (all-right clear (rowsFrom 0 (records bs)) (sizeRows [] 0 (records bs)) (h .1 .1));
     }
   where
     not-false : (t : Bool) → eqb (length bs % recordSize) 0 ≡ t → not t ≡ false → length bs % recordSize ≡ 0
@@ -215,8 +236,13 @@ none-accepts bs h =
 
 accepts-none : (bs : List ℕ) → Accepts bs → NoneHolds (listRows bs)
 unfolding listRows notWhole tooMany
-accepts-none bs a =
-    (rw (eq-eqb (length bs % recordSize) 0 (a .whole)), (le-ltb maxRecords (count bs) (a .few), pass-rows 0 (records bs) (a .pass)))
+accepts-none bs a = (
+  rw (eq-eqb (length bs % recordSize) 0 (a .whole)),
+  (
+    le-ltb maxRecords (count bs) (a .few),
+    all-append clear (rowsFrom 0 (records bs)) (sizeRows [] 0 (records bs)) (pass-rows 0 (records bs) (a .pass)) (one-size-none (records bs) (a .one-size)),
+  ),
+)
 
 pub accepted-exactly : (bs : List ℕ) → (checkOutcome bs ≡ done (count bs)) ↔ Accepts bs
 unfolding checkOutcome

@@ -10,6 +10,7 @@ use Rattle.slices.specs.Limits.{chunk}
 use Rattle.slices.specs.Cover.{cover, over, layer, given}
 use Rattle.slices.specs.Passes.{Passes}
 use Rattle.slices.specs.Record.{Fits}
+use Rattle.slices.proofs.Laws.OneSize.{Sized}
 use Rattle.slices.proofs.Laws.Cover.{layer-in, layer-before, layer-after, given-zero, given-byte}
 use Rattle.slices.specs.declared.Record.{Record}
 use Rattle.slices.specs.declared.Source.{Source}
@@ -26,6 +27,12 @@ abbrev pub IdFits : Source → Type 0
 IdFits Nothing = Unit {0}
 IdFits Zero = Unit {0}
 IdFits (Byte i s o) = i < 2 ^ 64
+
+-- a byte of a slice with the size that a table gives it, or no byte
+abbrev pub OfSize : (ℕ → ℕ) → Source → Type 0
+OfSize sizes Nothing = Unit {0}
+OfSize sizes Zero = Unit {0}
+OfSize sizes (Byte i s o) = s ≡ sizes i
 
 -- what each record gives, and nothing, have a property: so has a list's cover
 module _ (Q : Source → Type 0) (nothing : Q Nothing) (P : Record → Type 0)
@@ -63,11 +70,21 @@ given-id r h p a b = go (ℕ-discrete (r .id) 0)
     go (yes z) = rw (given-zero r p z) tt
     go (no z) = rw (given-byte r p z) (h .id)
 
+given-sized : (sizes : ℕ → ℕ) (r : Record) → Sized sizes r → (p : ℕ) → r .pos ≤ p → p < r .pos + r .len → OfSize sizes (given r p)
+given-sized sizes r h p a b = go (ℕ-discrete (r .id) 0)
+  where
+    go : Dec (r .id ≡ 0) → OfSize sizes (given r p)
+    go (yes z) = rw (given-zero r p z) tt
+    go (no z) = rw (given-byte r p z) (h z)
+
 pub cover-real : (rs : List Record) → All Passes rs → (p : ℕ) → Real (cover rs p)
 cover-real = cover-has Real tt Passes given-real
 
 pub cover-id : (rs : List Record) → All Fits rs → (p : ℕ) → IdFits (cover rs p)
 cover-id = cover-has IdFits tt Fits given-id
+
+pub cover-sized : (sizes : ℕ → ℕ) (rs : List Record) → All (Sized sizes) rs → (p : ℕ) → OfSize sizes (cover rs p)
+cover-sized sizes = cover-has (OfSize sizes) tt (Sized sizes) (given-sized sizes)
 
 -- nothing lies past the chunk
 pub cover-beyond : (rs : List Record) → All Passes rs → (p : ℕ) → chunk ≤ p → cover rs p ≡ Nothing

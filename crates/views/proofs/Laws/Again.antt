@@ -26,6 +26,7 @@ use Rattle.views.specs.Inner.{selected}
 use Rattle.views.specs.Calls.{viewBytes, viewOutcome}
 use Rattle.views.specs.Again.{Again, AgainBytes}
 use Rattle.views.proofs.Laws.Fits.{view-passes}
+use Rattle.views.proofs.Laws.OneSize.{view-one-size}
 use Rattle.views.proofs.Laws.RunCover.{laid, cover-in, cover-out}
 use Rattle.views.proofs.Laws.ViewBack.{view-back, view-wrote}
 use Rattle.views.proofs.Laws.ViewSource.{view-divides}
@@ -102,7 +103,14 @@ module _ (bs : List ℕ) (b : Bytes bs) where
           → checkOutcome (viewBytes bs l) ≡ firstOf (row (tooMany (viewBytes bs l)) number.tooMany 0 ∷ []) (done (count (viewBytes bs l)))
       go (yes k) = check-2 (viewBytes bs l) whole k ∙ rw (lt-ltb maxRecords (count (viewBytes bs l)) k)
       go (no k) =
-          accepted-exactly (viewBytes bs l) .1 (record { whole = whole; few = omega arith; pass = rw (view-back bs b (a .pass) l c) (again .passes) })
+          accepted-exactly (viewBytes bs l) .1 (
+          record {
+            whole = whole;
+            few = omega arith;
+            pass = rw (view-back bs b (a .pass) l c) (again .passes);
+            one-size = rw (view-back bs b (a .pass) l c) (view-one-size (records bs) (a .one-size) l c);
+          }
+          )
           ∙ rw (le-ltb maxRecords (count (viewBytes bs l)) (omega arith))
 
   -- of the bytes that the call wrote

@@ -1,4 +1,5 @@
--- The records of a view are records of 24 bytes that pass, and so are those of a tidied list, in which zeros have size 0. Assumes nothing.
+-- The records of a view are records of 24 bytes that pass, and so are those of a tidied list, in which zeros have size 0; their slices have the
+-- sizes of the list. Assumes nothing.
 use Prim.Native.Nat.{ℕ, _+_, _-_, _≤_, zero-le}
 use native.Mathlib.Omega.{arith}
 use native.Mathlib.Nat.{le-refl}
@@ -11,7 +12,8 @@ use Rattle.slices.specs.Limits.{chunk}
 use Rattle.slices.specs.Cover.{cover, isNothing}
 use Rattle.slices.specs.Passes.{Passes}
 use Rattle.slices.specs.Record.{Fits}
-use Rattle.slices.proofs.Laws.Sources.{Real, IdFits, cover-real, cover-id}
+use Rattle.slices.proofs.Laws.OneSize.{Sized}
+use Rattle.slices.proofs.Laws.Sources.{Real, IdFits, OfSize, cover-real, cover-id, cover-sized}
 use Rattle.runs.specs.Runs.{Run, Valid}
 use Rattle.runs.proofs.Laws.Runs.{valid-le}
 use Rattle.views.specs.View.{next, asRecord, runRecord, viewRuns, view, tidied}
@@ -42,6 +44,13 @@ unfolding asRecord shift
 run-passes at n Nothing l q k = record { inside = l; sized = omega arith; zeros = λ z. (refl, inr refl); within = λ z. absurd (z refl) }
 run-passes at n Zero l q k = record { inside = l; sized = zero-le; zeros = λ z. (refl, inl refl); within = λ z. absurd (z refl) }
 run-passes at n (Byte i s o) l q k = record { inside = l; sized = q .1; zeros = λ z. absurd (q .0 z); within = λ z. omega (arith, k .2) }
+
+-- slice bytes keep the size of their slice
+run-sized : (sizes : ℕ → ℕ) (at n : ℕ) (a : Source) → OfSize sizes a → Sized sizes (asRecord at n a)
+unfolding asRecord
+run-sized sizes at n Nothing q z = absurd (z refl)
+run-sized sizes at n Zero q z = absurd (z refl)
+run-sized sizes at n (Byte i s o) q z = q
 
 -- what holds of the record of each run that is written holds of all of them; `shift a (n - 1)` is the last source of a run of n positions from a
 module _ (all : Bool) (f : ℕ → Source) (Q : Source → Type 0) (has : (p : ℕ) → Q (f p)) (P : Record → Type 0)
@@ -80,6 +89,21 @@ module _ (rs : List Record) (h : All Passes rs) where
   tidied-zeros =
       all-written false (cover rs) Real (cover-real rs h) (λ (r : Record). r .id ≡ 0 → r .size ≡ 0) (λ at n a w l q e. run-zeros at n a w q) 0 chunk (le-refl chunk)
       (viewRuns rs chunk) (view-divides rs chunk)
+
+-- ---- their slices have the sizes of the list
+
+module _ (sizes : ℕ → ℕ) (rs : List Record) (h : All (Sized sizes) rs) where
+  all-sized : (all : Bool) (l : ℕ) → l ≤ chunk → All (Sized sizes) (map runRecord (selected all (viewRuns rs l)))
+  all-sized all l c =
+      all-written all (cover rs) (OfSize sizes) (cover-sized sizes rs h) (Sized sizes) (λ at n a w e q k. run-sized sizes at n a q) 0 l c (viewRuns rs l) (view-divides rs l)
+
+  pub view-sized : (l : ℕ) → l ≤ chunk → All (Sized sizes) (view rs l)
+  unfolding view selected
+  view-sized l c = all-sized true l c
+
+  pub tidied-sized : All (Sized sizes) (tidied rs)
+  unfolding tidied selected
+  tidied-sized = all-sized false chunk (le-refl chunk)
 
 -- ---- they have 24 bytes
 

@@ -19,6 +19,11 @@ pub fn faulty_list(faults: Faults, variant: usize) -> (Vec<u8>, u64) {
     for (i, (_, record)) in bad.into_iter().enumerate() {
         records.insert(1 + i, record);
     }
+    if faults.has(16) {
+        // Before the bad records or behind them all, and in one variant empty.
+        let at = [1, records.len(), records.len()][variant];
+        records.insert(at, Record::new(0, FIRST_ID, 300_000, 0, [5, 5, 0][variant]));
+    }
     let mut list: Vec<u8> = records.iter().flat_map(Record::to_bytes).collect();
     if faults.has(2) {
         list.resize((LIST_RECORDS + 1) * RECORD, 0);

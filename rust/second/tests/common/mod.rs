@@ -21,6 +21,11 @@ pub fn rows(bytes: &[u8]) -> Vec<Row> {
     bytes.chunks(24).map(Record::from_bytes).map(row).collect()
 }
 
+/// The records of a list, unchecked: what the definitions speak of.
+pub fn decoded(bytes: &[u8]) -> Vec<Record> {
+    bytes.chunks(24).map(Record::from_bytes).collect()
+}
+
 pub fn no(number: u64) -> Refusal {
     Refusal { number, place: 0 }
 }

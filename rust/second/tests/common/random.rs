@@ -9,9 +9,20 @@ pub const BLOCK_SIZE: u64 = 65_536;
 /// Positions reach over two edges of blocks.
 pub const END: u64 = 150_000;
 
+/// A list that the calls take: each slice has one size.
 pub fn some_list(random: &mut Rng, most: u64, ids: u64) -> Vec<u8> {
-    let rows: Vec<Row> = (0..random.below(most + 1)).map(|_| some_row(random, ids)).collect();
+    let mut rows = some_rows(random, most, ids);
+    for id in 1..=ids {
+        let of_slice = |row: &&mut Row| row.1 == id;
+        let size = rows.iter_mut().filter(of_slice).map(|row| row.2).max();
+        rows.iter_mut().filter(of_slice).for_each(|row| row.2 = size.unwrap_or(row.2));
+    }
     list(&rows)
+}
+
+/// Rows that pass 3 to 6, with a slice in several sizes.
+pub fn some_rows(random: &mut Rng, most: u64, ids: u64) -> Vec<Row> {
+    (0..random.below(most + 1)).map(|_| some_row(random, ids)).collect()
 }
 
 fn some_row(random: &mut Rng, ids: u64) -> Row {

@@ -13,17 +13,14 @@ read-pos-requires c κs = search needs
 read-id-requires : tie.Need-read-id-requires
 read-id-requires c κs = search needs
 
+read-size-requires : tie.Need-read-size-requires
+read-size-requires c κs = search needs
+
 add-read-be32 : tie.Need-add-read-be32
 add-read-be32 c = search needs
 
 read-be32-requires : tie.Need-read-be32-requires
 read-be32-requires c κs = search needs
-
-add-read-be32-2 : tie.Need-add-read-be32-2
-add-read-be32-2 c = search needs
-
-read-be32-requires-2 : tie.Need-read-be32-requires-2
-read-be32-requires-2 c κs = search needs
 
 read-len-requires : tie.Need-read-len-requires
 read-len-requires c κs = search needs
@@ -39,9 +36,8 @@ read-record-spec =
     mul-at
     read-pos-requires
     read-id-requires
+    read-size-requires
     add-read-be32
     read-be32-requires
-    add-read-be32-2
-    read-be32-requires-2
     read-len-requires
     returns)
