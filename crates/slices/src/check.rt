@@ -10,16 +10,11 @@ use crate::tree;
 use outcomes::Refusal;
 use outcomes::refusals;
 ghost use mathlib.Core.Path.{_≡_};
-ghost use mathlib.Core.Bool.{true};
-ghost use Prim.Native.Nat.{_%_, _≤_};
-ghost use lib.ListN.{length};
-ghost use Rattle.codec.specs.All.{All};
-ghost use Rattle.slices.specs.Limits.{recordSize, maxRecords};
-ghost use Rattle.slices.specs.Record.{count, records};
-ghost use Rattle.slices.specs.Passes.{Passes};
-ghost use Rattle.slices.specs.OneSize.{OneSize};
+ghost use Prim.Native.Nat.{_<_, _≤_};
+ghost use Rattle.slices.specs.Limits.{maxRecords};
+ghost use Rattle.slices.specs.Record.{count};
 ghost use Rattle.slices.specs.Refusals.{checkOutcome, checked};
-ghost use Rattle.slices.specs.Inner.{fault};
+ghost use Rattle.slices.specs.Inner.{fault, numberAt, fell, Risen, Passed, Sound, FirstRefused};
 
 // In a list of up to so many records, each is compared with all before it.
 const FEW: usize = 16;
@@ -52,47 +47,76 @@ fn check_record(r: Record) -> u8
     0
 }
 
-// Whether a list of whole records is sound: each record passes, and is compared with all before it.
-fn sound(list: &[u8]) -> bool
-    ensures { λ r. ⌜ (r ≡ true → All Passes (records (now (list .entry))) × OneSize (records (now (list .entry)))) ⌝ }
+// The number with which the record at a place is refused: 16 where the record alone is not.
+fn number_at(list: &[u8], place: usize) -> u8
+    requires { ⌜ place < count (now list) ⌝ }
+    ensures { λ n. ⌜ n ≡ numberAt (now (list .entry)) place ⌝ }
+{
+    let number = check_record(records::read_record(list, place));
+    if number == 0 {
+        return refusals::TWO_SIZES;
+    }
+    number
+}
+
+// How many of the first records are sound: each passes, and agrees with all before it.
+fn sound(list: &[u8]) -> usize
+    ensures { λ i. ⌜ Sound (now (list .entry)) i ⌝ }
 {
     let n = list.len() / RECORD;
     let mut i = 0;
     while i < n {
         if check_record(records::read_record(list, i)) != 0 {
-            return false;
+            return i;
         }
         if sizes::agrees(list, i) {
             i += 1;
         } else {
-            return false;
+            return i;
         }
     }
-    true
+    i
 }
 
-// The number of records of a list, or its refusal behind 1 and 2. Ids that rise from record to record need no search for two sizes.
-fn check_records(list: &[u8]) -> Checked
-    requires { ⌜ length (now list) % recordSize ≡ 0 ⌝ }
+// The place of the first refused record, or the number of records, where those before `from` pass. Ids that rise from record to record need no search.
+fn first_refused(list: &[u8], from: usize, highest: u64) -> usize
     requires { ⌜ count (now list) ≤ maxRecords ⌝ }
-    ensures { λ r. ⌜ r ≡ checked (checkOutcome (now (list .entry))) ⌝ }
+    requires { ⌜ from ≤ count (now list) ⌝ }
+    requires { ⌜ Passed (now list) from ⌝ }
+    requires { ⌜ (highest < fell → Risen (now list) from highest) ⌝ }
+    ensures { λ p. ⌜ FirstRefused (now (list .entry)) p ⌝ }
 {
     let n = list.len() / RECORD;
-    let mut last = 0;
-    let mut i = 0;
+    let mut last = highest;
+    let mut i = from;
     while i < n {
         let r = records::read_record(list, i);
-        let number = check_record(r);
-        if number != 0 {
-            return Checked::Refused(Refusal { number, place: i });
+        if check_record(r) != 0 {
+            return i;
         }
         last = sizes::risen(last, r.id);
         i += 1;
     }
     if last < sizes::FELL {
-        return Checked::Accepted(n);
+        return n;
     }
-    tree::check_sizes(list)
+    tree::two_sizes_at(list)
+}
+
+// The same of a whole list. `first_refused` is called from two places, so that it keeps a frame of its own: its tables would cost every short list some time.
+fn refused_at(list: &[u8]) -> usize
+    requires { ⌜ count (now list) ≤ maxRecords ⌝ }
+    ensures { λ p. ⌜ FirstRefused (now (list .entry)) p ⌝ }
+{
+    let n = list.len() / RECORD;
+    if n <= FEW {
+        let i = sound(list);
+        if i == n {
+            return n;
+        }
+        return first_refused(&list[..], i, sizes::FELL);
+    }
+    first_refused(&list[..], 0, 0)
 }
 
 // The number of records of a list, or its refusal.
@@ -106,12 +130,10 @@ pub fn check_list(list: &[u8]) -> Checked
     if RECORDS < n {
         return Checked::Refused(refusals::refusal(refusals::TOO_MANY));
     }
-    if n <= FEW {
-        if sound(list) {
-            return Checked::Accepted(n);
-        }
-        // Called twice, so that it keeps a frame of its own: its tables would cost every short list some time.
-        return check_records(list);
+    let place = refused_at(list);
+    if place == n {
+        return Checked::Accepted(n);
     }
-    check_records(list)
+    let number = number_at(list, place);
+    Checked::Refused(Refusal { number, place })
 }

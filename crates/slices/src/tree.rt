@@ -3,17 +3,13 @@
 // A table holds it: first the roots, one for each number that the low bits of an id can be, then eight children for each record. An entry is a record's number
 // plus 1, or 0. The search for an id begins at its root and goes on at the child of each record that the id's next three bits say, until it comes to the id or
 // to no record. Most ids are alone at their root; those that meet there are told apart on the way down.
-use crate::Checked;
 use crate::RECORD;
 use crate::records;
-use outcomes::Refusal;
-use outcomes::refusals;
 ghost use mathlib.Core.Path.{_≡_};
 ghost use Prim.Native.Nat.{_<_, _≤_};
 ghost use Rattle.slices.specs.Limits.{maxRecords};
 ghost use Rattle.slices.specs.Record.{recordAt, count};
-ghost use Rattle.slices.specs.Refusals.{checked};
-ghost use Rattle.slices.specs.Inner.{sizeOutcome};
+ghost use Rattle.slices.specs.Inner.{FirstOther};
 ghost use Rattle.slices.specs.Tree.{rootOf, Ends, Room, Entered};
 
 // A table for up to 256 records, with 512 roots.
@@ -94,10 +90,10 @@ fn enter(list: &[u8], table: &mut [u16], roots: u64, i: usize) -> bool
     }
 }
 
-// The number of records of a list, or refusal 16 at the first that disagrees with an earlier one, with an empty tree.
-fn check_with(list: &[u8], table: &mut [u16], roots: u64) -> Checked
+// The place of the first record that disagrees with an earlier one, or the number of records, with an empty tree.
+fn search_with(list: &[u8], table: &mut [u16], roots: u64) -> usize
     requires { ⌜ Room (now list) (now table) roots 0 ⌝ }
-    ensures { λ r. ⌜ r ≡ checked (sizeOutcome (now (list .entry))) ⌝ }
+    ensures { λ p. ⌜ FirstOther (now (list .entry)) p ⌝ }
 {
     let n = list.len() / RECORD;
     let mut i = 0;
@@ -105,38 +101,35 @@ fn check_with(list: &[u8], table: &mut [u16], roots: u64) -> Checked
         if enter(list, table, roots, i) {
             i += 1;
         } else {
-            return Checked::Refused(Refusal {
-                number: refusals::TWO_SIZES,
-                place: i,
-            });
+            return i;
         }
     }
-    Checked::Accepted(n)
+    n
 }
 
-fn check_some(list: &[u8]) -> Checked
+fn search_some(list: &[u8]) -> usize
     requires { ⌜ count (now list) ≤ 256 ⌝ }
-    ensures { λ r. ⌜ r ≡ checked (sizeOutcome (now (list .entry))) ⌝ }
+    ensures { λ p. ⌜ FirstOther (now (list .entry)) p ⌝ }
 {
     let mut table = [0u16; SOME_TABLE];
-    check_with(list, &mut table, SOME_ROOTS)
+    search_with(list, &mut table, SOME_ROOTS)
 }
 
-fn check_many(list: &[u8]) -> Checked
+fn search_many(list: &[u8]) -> usize
     requires { ⌜ count (now list) ≤ maxRecords ⌝ }
-    ensures { λ r. ⌜ r ≡ checked (sizeOutcome (now (list .entry))) ⌝ }
+    ensures { λ p. ⌜ FirstOther (now (list .entry)) p ⌝ }
 {
     let mut table = [0u16; MANY_TABLE];
-    check_with(list, &mut table, MANY_ROOTS)
+    search_with(list, &mut table, MANY_ROOTS)
 }
 
 // The same, in a table of the list's size: no large one is cleared for a short list.
-pub(crate) fn check_sizes(list: &[u8]) -> Checked
+pub(crate) fn two_sizes_at(list: &[u8]) -> usize
     requires { ⌜ count (now list) ≤ maxRecords ⌝ }
-    ensures { λ r. ⌜ r ≡ checked (sizeOutcome (now (list .entry))) ⌝ }
+    ensures { λ p. ⌜ FirstOther (now (list .entry)) p ⌝ }
 {
     if list.len() / RECORD <= SOME {
-        return check_some(list);
+        return search_some(list);
     }
-    check_many(list)
+    search_many(list)
 }

@@ -1,7 +1,8 @@
 -- Laws of the refusals of a list: what is known of records and lists that are not refused, and the check, record by record.
 -- Assumes nothing.
-use Prim.Native.Nat.{ℕ, suc, _+_, _-_, _%_, _^_, _<_, _≤_}
+use Prim.Native.Nat.{ℕ, zero, suc, _+_, _-_, _%_, _^_, _<_, _≤_}
 use native.Mathlib.Omega.{arith}
+use native.Mathlib.Nat.{le-refl}
 use native.Mathlib.Decide.{ℕ-discrete}
 use native.Mathlib.Numerals.{add-one}
 use mathlib.Core.Path.{_≡_, refl, sym, ap, _∙_}
@@ -20,7 +21,7 @@ use Rattle.slices.specs.Accepts.{Accepts}
 use Rattle.outcomes.specs.Numbers as number
 use Rattle.outcomes.specs.Outcome.{Outcome, refused, done, refusal, Row, firstOf, NoneHolds, Given}
 use Rattle.slices.specs.Refusals.{notWhole, tooMany, pastChunk, tooLarge, zerosWithSlice, pastSlice, recordRows, rowsFrom, sizeRows, listRows, checkOutcome, checked}
-use Rattle.slices.specs.Inner.{fault, sizeOutcome}
+use Rattle.slices.specs.Inner.{fault, numberAt, sizeOutcome, FirstOther, checkFrom, Passed, FirstRefused}
 use Rattle.codec.proofs.Laws.All.{all-append, all-left, all-right}
 use Rattle.slices.proofs.Laws.OneSize.{none-one-size, one-size-none}
 use Rattle.outcomes.proofs.Laws.Outcome.{firstOf-append, none-passes, done-none, stops, row-holds, row-passes, refused-exactly, answered-exactly}
@@ -132,18 +133,6 @@ module _ (r : Record) where
         unfolding fault pastChunk tooLarge zerosWithSlice pastSlice
         fault-0-slice e = rw (le-ltb chunk (r .pos + r .len) a, le-ltb chunk (r .size) b, ne-eqb (r .id) 0 z, le-ltb (r .size) (r .off + r .len) e)
 
--- a record without one passes
-pub clean-passes : (r : Record) → fault r ≡ 0 → Passes r
-unfolding fault
-clean-passes r h = none-pass r 0 (go (pastChunk r) (tooLarge r) (zerosWithSlice r) (pastSlice r) h)
-  where
-    go : (a b c d : Bool) → _≡_ {A = ℕ} (cond a 3 (cond b 4 (cond c 5 (cond d 6 0)))) 0 → (a ≡ false) × ((b ≡ false) × ((c ≡ false) × ((d ≡ false) × Unit {0})))
-    go true b c d e = absurd (omega arith)
-    go false true c d e = absurd (omega arith)
-    go false false true d e = absurd (omega arith)
-    go false false false true e = absurd (omega arith)
-    go false false false false e = (refl, (refl, (refl, (refl, tt))))
-
 -- ---- the check, record by record
 
 -- what a record's rows give: its fault, or what follows
@@ -160,10 +149,6 @@ fault-rows r at rest o = go (pastChunk r) (tooLarge r) (zerosWithSlice r) (pastS
     go false false true d = refl
     go false false false true = refl
     go false false false false = refl
-
--- the check of the records from i on, where those before pass 3 to 6, and then of all for 16
-unfoldable pub checkFrom : List ℕ → ℕ → Outcome ℕ
-checkFrom bs i = firstOf (rowsFrom i (recordsFrom bs i (count bs - i))) (sizeOutcome bs)
 
 module _ (bs : List ℕ) where
   pub check-1 : length bs % recordSize ≢ 0 → checkOutcome bs ≡ refused (refusal number.notWhole 0)
@@ -200,6 +185,34 @@ module _ (bs : List ℕ) where
     check-end h =
         let k : count bs - i ≡ 0 = omega arith in
         rw k
+
+-- ---- the first refused record
+
+module _ (bs : List ℕ) where
+  passed-check : (i : ℕ) → i ≤ count bs → Passed bs i → checkFrom bs 0 ≡ checkFrom bs i
+  passed-check zero h p = refl
+  passed-check (suc i) h p = passed-check i (omega arith) (λ j l. p j (omega arith)) ∙ rw add-one at (check-next bs i (omega arith) (p i (omega arith)))
+
+  -- a record that does not pass
+  pub refused-here : (i : ℕ) → i < count bs → Passed bs i → fault (recordAt bs i) ≢ 0 → FirstRefused bs i
+  unfolding numberAt
+  refused-here i h p f =
+      record {
+        within = omega arith;
+        says = rw (ne-eqb i (count bs) (λ z. omega arith), ne-eqb (fault (recordAt bs i)) 0 f) (passed-check i (omega arith) p ∙ check-here bs i h f);
+      }
+
+  -- all pass: then refusal 16 decides
+  pub refused-later : Passed bs (count bs) → (p : ℕ) → FirstOther bs p → FirstRefused bs p
+  unfolding numberAt
+  refused-later a p o = record { within = o .within; says = go (ℕ-discrete p (count bs)) }
+    where
+      rows : checkFrom bs 0 ≡ sizeOutcome bs
+      rows = passed-check (count bs) (le-refl (count bs)) a ∙ check-end bs (count bs) (le-refl (count bs))
+
+      go : Dec (p ≡ count bs) → checkFrom bs 0 ≡ cond (eqb p (count bs)) (done (count bs)) (refused (refusal (numberAt bs p) p))
+      go (yes e) = rows ∙ o .says ∙ rw (eq-eqb p (count bs) e)
+      go (no e) = rows ∙ o .says ∙ rw (ne-eqb p (count bs) e, eq-eqb (fault (recordAt bs p)) 0 (a p (omega (arith, o .within))))
 
 -- ---- a list that is accepted
 

@@ -1,6 +1,8 @@
 -- The check of refusal 16, record by record: by what is said of the records from i on, and by the first i records that agree. Assumes nothing.
 use Prim.Native.Nat.{ℕ, suc, _+_, _-_, _<_, _≤_}
 use native.Mathlib.Omega.{arith}
+use native.Mathlib.Nat.{le-refl}
+use borrow.Author.Tests.{eq-eqb, ne-eqb}
 use native.Mathlib.Numerals.{add-one}
 use native.Mathlib.Decide.{ℕ-discrete, decLt}
 use mathlib.Core.Path.{_≡_, refl, sym, _∙_}
@@ -17,7 +19,7 @@ use Rattle.slices.specs.Limits.{recordSize}
 use Rattle.slices.specs.Record.{decode, recordAt, recordsFrom, count, records}
 use Rattle.slices.specs.OneSize.{Agree, OneSize}
 use Rattle.slices.specs.Refusals.{twoSizes, sizeRows}
-use Rattle.slices.specs.Inner.{sizeOutcome, Agreed}
+use Rattle.slices.specs.Inner.{sizeOutcome, FirstOther, Agreed, Risen}
 use Rattle.slices.proofs.Laws.Record.{records-more, records-all}
 use Rattle.slices.proofs.Laws.OneSize.{agree-none, none-agrees, agree-sym, one-size-none}
 use Rattle.slices.specs.declared.Record.{Record}
@@ -61,6 +63,13 @@ module _ (bs : List ℕ) where
     sizes-end h =
         let k : count bs - i ≡ 0 = omega arith in
         rw k
+
+  -- the search stops at a record that disagrees, or at the end
+  pub other-here : (i : ℕ) → i < count bs → sizeOutcome bs ≡ sizesFrom bs i → twoSizes (recordsFrom bs 0 i) (recordAt bs i) ≡ true → FirstOther bs i
+  other-here i h e t = record { within = omega arith; says = rw (ne-eqb i (count bs) (λ z. omega arith)) (e ∙ sizes-here i h t) }
+
+  pub other-none : sizeOutcome bs ≡ done (count bs) → FirstOther bs (count bs)
+  other-none e = record { within = le-refl (count bs); says = rw (eq-eqb (count bs) (count bs) refl) e }
 
   -- ---- a record and those before it, by their places
 
@@ -122,15 +131,10 @@ module _ (bs : List ℕ) where
 
   -- ---- ids that rise
 
-  -- the ids before i are at most `last`, and the records agree
-  pub record Risen (i last : ℕ) : Type 0 where
-    pub most : (j : ℕ) → j < i → recordAt bs j .id ≤ last
-    pub agreed : Agreed bs i
-
-  pub risen-none : Risen 0 0
+  pub risen-none : Risen bs 0 0
   risen-none = record { most = λ j l. absurd (omega arith); agreed = agreed-none }
 
-  pub risen-more : (i last next : ℕ) → Risen i last → last ≤ next → recordAt bs i .id ≤ next → (recordAt bs i .id ≡ 0) ⊎ (last < recordAt bs i .id) → Risen (i + 1) next
+  pub risen-more : (i last next : ℕ) → Risen bs i last → last ≤ next → recordAt bs i .id ≤ next → (recordAt bs i .id ≡ 0) ⊎ (last < recordAt bs i .id) → Risen bs (i + 1) next
   risen-more i last next a h k c =
       record {
         most = one-more (λ (j : ℕ). recordAt bs j .id ≤ next) i (λ j l. omega (arith, a .most j l)) k;

@@ -1,10 +1,12 @@
--- `slices::check::check_list` meets its contract: a sound list of few records is accepted, and all others are checked record by record. Assumes nothing.
+-- `slices::check::check_list` meets its contract: 1, 2, and then the first refused record, with the number that its place tells. Assumes nothing.
+use native.Mathlib.Omega.{arith}
 use mathlib.Core.Path.{ap}
 use denote.Ref.{now}
+use borrow.Author.Tests.{eq-eqb, ne-eqb}
 use Rattle.outcomes.specs.Answers.{answerOf}
 use Rattle.slices.specs.Record.{count}
 use Rattle.slices.specs.declared.Checked.the-variants.{Refused}
-use Rattle.slices.proofs.Laws.Refusals.{check-1, check-2, accepted-exactly}
+use Rattle.slices.proofs.Laws.Refusals.{check-1, check-2, check-start}
 use borrow.Author.Needs.{needs}
 use Rattle.slices.proofs.check.check_list.Statement.{statement}
 use Rattle.slices.proofs.check.check_list.Tie as tie
@@ -27,29 +29,27 @@ returns-2 c =
     let start = c .before .before .before .before in
     rw (check-2 (now (start .args .list)) (c .before .before .if1 .left) (c .before .if2 .taken)) (ap Refused (c .refusal2 .ensures))
 
-sound-requires : tie.Need-sound-requires
-sound-requires c κs = search needs
+refused-at-requires : tie.Need-refused-at-requires
+unfolding count
+refused-at-requires c κs = c .if2 .left
 
 returns-3 : tie.Need-returns-3
 unfolding answerOf count
 returns-3 c =
-    let small = c .before .before .before in
-    let good = c .before .sound .ensures (c .if4 .taken) in
-    rw (accepted-exactly _ .1 (record { whole = small .before .if1 .left; few = small .if2 .left; pass = good .0; one-size = good .1 }))
+    let told = c .before in
+    let small = told .before in
+    rw (check-start _ (small .before .if1 .left) (small .if2 .left), told .refused-at .ensures .says, eq-eqb _ _ (c .if3 .taken))
 
-check-records-requires : tie.Need-check-records-requires
+number-at-requires : tie.Need-number-at-requires
 unfolding count
-check-records-requires c κs = let small = c .before .before .before in (small .before .if1 .left, small .if2 .left)
+number-at-requires c κs = omega (arith, c .before .refused-at .ensures .within, c .if3 .left)
 
 returns-4 : tie.Need-returns-4
-returns-4 c = search needs
-
-check-records-requires-2 : tie.Need-check-records-requires-2
-unfolding count
-check-records-requires-2 c κs = (c .before .before .if1 .left, c .before .if2 .left)
-
-returns-5 : tie.Need-returns-5
-returns-5 c = search needs
+unfolding answerOf count
+returns-4 c =
+    let told = c .before .before in
+    let small = told .before in
+    rw (check-start _ (small .before .if1 .left) (small .if2 .left), told .refused-at .ensures .says, ne-eqb _ _ (c .before .if3 .left), c .number-at .ensures)
 
 pub check-list-spec : {M : Type 1} → statement M
 check-list-spec =
@@ -59,9 +59,7 @@ check-list-spec =
     returns
     refusal-requires-2
     returns-2
-    sound-requires
+    refused-at-requires
     returns-3
-    check-records-requires
-    returns-4
-    check-records-requires-2
-    returns-5)
+    number-at-requires
+    returns-4)

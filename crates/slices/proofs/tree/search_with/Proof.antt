@@ -1,4 +1,4 @@
--- `slices::tree::check_with` meets its contract. The invariant: the tree has the first i records, and what is said of the list is said of its
+-- `slices::tree::search_with` meets its contract. The invariant: the tree has the first i records, and what is said of the list is said of its
 -- records from i on. Assumes nothing.
 use Prim.Native.Nat.{_-_}
 use native.Mathlib.Omega.{arith}
@@ -6,12 +6,11 @@ use mathlib.Core.Path.{_≡_, refl, ap, _∙_}
 use mathlib.Core.Bool.{not}
 use lib.ListN.{length}
 use Rattle.slices.specs.Record.{count}
-use Rattle.outcomes.specs.Answers.{answerOf}
 use Rattle.slices.specs.Inner.{sizeOutcome}
 use Rattle.slices.specs.Tree.{Room}
-use Rattle.slices.proofs.Laws.Sizes.{sizesFrom, sizes-start, sizes-next, sizes-here, sizes-end}
-use Rattle.slices.proofs.tree.check_with.Statement.{statement}
-use Rattle.slices.proofs.tree.check_with.Tie as tie
+use Rattle.slices.proofs.Laws.Sizes.{sizesFrom, sizes-start, sizes-next, sizes-end, other-here, other-none}
+use Rattle.slices.proofs.tree.search_with.Statement.{statement}
+use Rattle.slices.proofs.tree.search_with.Tie as tie
 
 abbrev Inv-loop : tie.InvT-loop
 Inv-loop list table₀ roots n i₀ table i = (length table ≡ length table₀) × Room list table roots i × (sizeOutcome list ≡ sizesFrom list i)
@@ -49,21 +48,20 @@ same-length c =
     entered .enter .kept .1 .0 ∙ entered .before .before .before .loop .inv .0
 
 returns : tie.Need-returns Inv-loop μ-loop
-unfolding answerOf count
+unfolding count
 returns c =
     let entered = c .before .before .before in
-    let l = entered .before .before .before in
-    rw (l .loop .inv .2, sizes-here _ _ (entered .before .before .loop-test .taken) (entered .enter .ensures .says ∙ ap not (c .if1 .left)))
+    other-here _ _ (entered .before .before .loop-test .taken) (entered .before .before .before .loop .inv .2) (entered .enter .ensures .says ∙ ap not (c .if1 .left))
 
 same-length-2 : tie.Need-same-length-2 Inv-loop μ-loop
 same-length-2 c = c .before .loop .inv .0
 
 returns-2 : tie.Need-returns-2 Inv-loop μ-loop
-unfolding answerOf count
-returns-2 c = rw (c .before .loop .inv .2, sizes-end _ _ (c .loop-test .left))
+unfolding count
+returns-2 c = other-none _ (c .before .loop .inv .2 ∙ sizes-end _ _ (c .loop-test .left))
 
-pub check-with-spec : {M : Type 1} → statement M
-check-with-spec =
+pub search-with-spec : {M : Type 1} → statement M
+search-with-spec =
     tie.close
     (tie.spec
     Inv-loop
