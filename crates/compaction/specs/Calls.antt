@@ -53,7 +53,7 @@ laterRows rs B k id planRoom listRoom =
     ∷ row (idInUse id rs) number.idInUse 0
     ∷ roomRows (both B rs k id) planRoom listRoom
 
--- 8, 1, 2, 3 to 6, and these
+-- 8, 1, 2, 3 to 6, 16, and these
 unfoldable pub compactRows : List ℕ → (B k id planRoom listRoom : ℕ) → List Row
 compactRows bs B k id planRoom listRoom = row (blockSizeBad B) number.blockSize 0 ∷ (listRows bs ++ laterRows (records bs) B k id planRoom listRoom)
 

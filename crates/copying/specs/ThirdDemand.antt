@@ -61,7 +61,7 @@ pub record ThirdDemand : Type 0 where
   -- "Copying turns the store before it into the store after it, by the plan": there is such a store
   pub copying : (B : ℕ) (rs : List Record) (k id : ℕ) (before : Store) → Copied B rs k id before (copied B rs k id before)
   -- "Old and new list, both with these records at the end, read the same byte at each position from the store after copying": for every k, new
-  -- id, store and list of appended records
+  -- id, store and list of appended records. "For the calls, joined lists must be accepted together" (paper 02, L8): refusal 16 looks at the whole of one.
   pub compacted : (B : ℕ) (rs : List Record) (k id : ℕ) → Allowed B rs k id → (before after : Store) → Copied B rs k id before after
       → (ys : List Record) (p : ℕ) → p < chunk → reads B after (rs ++ ys) p ≡ reads B after (records (newListBytes rs k id) ++ ys) p
   -- "The old list alone also reads from it what it read from the store before."

@@ -13,7 +13,7 @@ use Rattle.plans.specs.Plan.{readPlan}
 unfoldable pub planBytes : List ℕ → (l B start count : ℕ) → List ℕ
 planBytes bs l B start count = encodePieces (readPlan B (records bs) l start count)
 
--- 7, 8, 1, 2, 3 to 6, 12; `room` is the length of the lent buffer
+-- 7, 8, 1, 2, 3 to 6, 16, 12; `room` is the length of the lent buffer
 unfoldable pub readRows : List ℕ → (l B start count room : ℕ) → List Row
 readRows bs l B start count room =
     row (chunkTooLong l) number.chunkTooLong 0

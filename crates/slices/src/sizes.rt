@@ -7,10 +7,10 @@ ghost use Prim.Native.Nat.{_+_, _<_, _≤_};
 ghost use Rattle.slices.specs.Record.{count};
 ghost use Rattle.slices.specs.Inner.{Agreed, FirstWith, fell};
 
-// The highest id before a record, while the ids rise from record to record; or this, where one does not.
+// Stands for the highest id of the records so far, once an id has not risen above those before it.
 pub(crate) const FELL: u64 = 18446744073709551615;
 
-// The highest id with one more record. Zeros are of no slice, so id 0 may stand anywhere.
+// The highest id with one record more. Zeros are of no slice, so id 0 may stand anywhere.
 pub(crate) fn risen(last: u64, id: u64) -> u64
     ensures { λ r. ⌜ (r < fell → (last ≤ r) × (id ≤ r) × ((id ≡ 0) ⊎ (last < id))) ⌝ }
 {

@@ -51,6 +51,7 @@ fn search(list: &[u8], table: &[u16], roots: u64, i: usize, id: u64) -> Spot
     ensures { λ r. ⌜ Ends (recordAt (now (list .entry))) (now (table .entry)) roots i id r ⌝ }
 {
     let mut s = root_of(roots, id);
+    // Behind the bits that tell the roots of the smaller table.
     let mut left = id / 512;
     loop {
         let entry = wide(table[s]);

@@ -24,7 +24,7 @@ tidiedTooLong bs = ltb maxTidied (length (tidied (records bs)))
 unfoldable pub viewBytes : List ℕ → ℕ → List ℕ
 viewBytes bs l = encodeAll (view (records bs) l)
 
--- 7, 1, 2, 3 to 6, 12; `room` is the length of the lent buffer
+-- 7, 1, 2, 3 to 6, 16, 12; `room` is the length of the lent buffer
 unfoldable pub viewRows : List ℕ → ℕ → ℕ → List Row
 viewRows bs l room = row (chunkTooLong l) number.chunkTooLong 0 ∷ (listRows bs ++ (tooShort (viewBytes bs l) room ∷ []))
 
@@ -33,7 +33,7 @@ viewOutcome bs l room = firstOf (viewRows bs l room) (done (viewBytes bs l))
 
 -- ---- tidy
 
--- 1, 2, 3 to 6, 11, 12
+-- 1, 2, 3 to 6, 16, 11, 12
 unfoldable pub tidyRows : List ℕ → ℕ → List Row
 tidyRows bs room = listRows bs ++ (row (tidiedTooLong bs) number.tidiedTooLong 0 ∷ tooShort (tidiedBytes (records bs)) room ∷ [])
 

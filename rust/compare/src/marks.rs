@@ -18,11 +18,12 @@ struct Mark {
     met: usize,
 }
 
-const MARKS: [Mark; 6] = [
+const MARKS: [Mark; 7] = [
     Mark { name: "random, zeros with a size", is: several_sized_zeros, met: 0 },
     Mark { name: "random, views fed back", is: view_with_holes, met: 0 },
     Mark { name: "random, zeros of other size", is: zeros_of_other_size, met: 5 },
     Mark { name: "random, many slices", is: many_slices, met: 0 },
+    Mark { name: "random, two sizes of many", is: two_sizes_of_many, met: 16 },
     Mark { name: "random, two sizes apart", is: two_sizes_apart, met: 16 },
     Mark { name: "random, empty of other size", is: empty_of_other_size, met: 16 },
 ];
@@ -70,11 +71,17 @@ fn zeros_of_other_size(records: &[Record]) -> bool {
     records.iter().any(|record| record.id == 0 && record.off == 0 && near(record))
 }
 
-/// More than one falls behind the id before it.
+/// Their ids fall more than once.
 fn many_slices(records: &[Record]) -> bool {
     let ids: HashSet<u64> = records.iter().map(|record| record.id).collect();
     let falls = records.windows(2).filter(|pair| pair[1].id <= pair[0].id).count();
     ids.len() > 100 && falls > 1
+}
+
+fn two_sizes_of_many(records: &[Record]) -> bool {
+    let ids: HashSet<u64> = records.iter().map(|record| record.id).collect();
+    let sizes: HashSet<(u64, u64)> = records.iter().map(|r| (r.id, r.size)).collect();
+    many_slices(records) && !ids.contains(&0) && sizes.len() > ids.len()
 }
 
 /// One slice, and another size.

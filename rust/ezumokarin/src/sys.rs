@@ -11,7 +11,7 @@ use std::mem::{align_of, offset_of, size_of};
 pub struct ezk_answer {
     /// 0, or the number of the refusal.
     pub refusal: u64,
-    /// The place of the refused record, for refusals 3 to 6.
+    /// The place of the refused record, for refusals 3 to 6 and 16.
     pub place: u64,
     /// Bytes written, or records found.
     pub count: u64,
@@ -23,7 +23,7 @@ pub struct ezk_answer {
 pub struct ezk_compacted {
     /// 0, or the number of the refusal.
     pub refusal: u64,
-    /// The place of the refused record, for refusals 3 to 6.
+    /// The place of the refused record, for refusals 3 to 6 and 16.
     pub place: u64,
     /// Bytes of the plan.
     pub plan: u64,

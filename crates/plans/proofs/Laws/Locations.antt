@@ -29,6 +29,15 @@ use Rattle.slices.specs.declared.Source.the-variants.{Nothing, Zero, Byte}
 use Rattle.plans.specs.declared.Location.{Location}
 use Rattle.plans.specs.declared.Location.the-variants.{Hole, In}
 
+-- ---- one object for two sizes
+
+-- a byte of a block that is whole in two sizes of its slice lies in one object: a plan joins what a view parts
+pub sizes-share : (B i s t o : ℕ) → o / B * B + B ≤ s → o / B * B + B ≤ t → location B (Byte i s o) ≡ location B (Byte i t o)
+unfolding location blockLength
+sizes-share B i s t o h k =
+    let e : min B (s - o / B * B) ≡ min B (t - o / B * B) = omega arith in
+    rw e
+
 -- ---- what has no object
 
 pub location-hole : (B : ℕ) (s : Source) → OneOf 0 1 s → location B s ≡ Hole
