@@ -5,7 +5,7 @@
  * Any bytes and any numbers may be passed. Each call ends with an answer or with one of
  * the refusals below. A refused call changes no byte of any buffer. A successful call
  * writes its answer at the front of the buffer and leaves the rest as it was. The library
- * keeps no pointer and has no state.
+ * keeps no pointer and has no state, and a call needs a stack of 64 KiB at most.
  *
  * A pointer must be good for as many bytes as the length beside it; with length 0 it may
  * be NULL. Buffers to be written may overlap neither each other nor the inputs.

@@ -5,9 +5,10 @@ use native.Mathlib.Omega.{arith}
 use mathlib.Core.Path.{_≡_, refl, _∙_}
 use mathlib.Core.Bool.{false}
 use mathlib.Core.List.{List}
-use lib.ListN.{length}
+use lib.ListN.{length, take}
 use Rattle.codec.specs.All.{Bytes}
 use Rattle.slices.specs.Record.{records}
+use Rattle.slices.specs.Accepts.{Accepts}
 use Rattle.outcomes.specs.Outcome.{Outcome, refused, done, Row, firstOf, NoneHolds}
 use Rattle.outcomes.specs.Answers.{answerOf, leftIn, Answers, Front}
 use Rattle.outcomes.proofs.Laws.Answers.{front-of, said-wrote}
@@ -20,6 +21,7 @@ use Rattle.views.specs.View.{tidiedBytes}
 use Rattle.views.specs.Calls.{tidyRows, tidyOutcome}
 use Rattle.compaction.specs.Calls.{Both, both, laterRows, compactRows, compactOutcome, Compacts}
 use Rattle.compaction.specs.Compaction.{planBytes, newListBytes}
+use Rattle.compaction.proofs.Laws.Again.{compact-done-accepted}
 use Rattle.copying.specs.ThirdDemand.{Sound, Allowed}
 use Rattle.codec.proofs.Laws.All.{all-left, all-right}
 use Rattle.slices.proofs.Laws.Firsts.{records-fit}
@@ -70,3 +72,14 @@ module _ (bs : List ℕ) (b : Bytes bs) where
               front-of plan plan' _ m (cc (a .answers, same)) (a .leaves .0 ∙ rw same),
               front-of list list' _ n (cc (a .answers, same)) (a .leaves .1 .0 ∙ rw same),
             )
+
+    -- and the new list is accepted again
+    pub compacted-wrote-accepted : Compacts (compactOutcome bs B k id (length plan) (length list)) plan list (both.Wrote m n) plan' list' → Accepts (take n list')
+    unfolding answerOf leftIn
+    compacted-wrote-accepted a = go (compactOutcome bs B k id (length plan) (length list)) refl a
+      where
+        go : (o : Outcome Both) → compactOutcome bs B k id (length plan) (length list) ≡ o → Compacts o plan list (both.Wrote m n) plan' list' → Accepts (take n list')
+        go (refused r) e a = let z : _≡_ {A = ℕ} 0 1 = cc (a .answers) in absurd (omega arith)
+        go (done w) e a =
+            let new = front-of list list' (w .list) n (cc (a .answers)) (a .leaves .1 .0) in
+            rw (new .front) (compact-done-accepted bs b B k id (length plan) (length list) wide w e .1)
