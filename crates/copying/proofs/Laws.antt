@@ -9,3 +9,4 @@ pub mod Compaction
 pub mod Answered
 pub mod Allowed
 pub mod ThirdDemand
+pub mod OneSlice

@@ -45,7 +45,7 @@ pub record FirstWith (bs : List ℕ) (i id first : ℕ) : Type 0 where
   pub has : first < i → recordAt bs first .id ≡ id
   pub none : (j : ℕ) → j < first → recordAt bs j .id ≢ id
 
--- no highest id: the largest number of 64 bits
+-- stands for the highest id once one has not risen: the largest number of 64 bits
 abbrev pub fell : ℕ
 fell = 18446744073709551615
 
@@ -59,6 +59,10 @@ pub record Risen (bs : List ℕ) (i last : ℕ) : Type 0 where
 -- the check of the records from i on for 3 to 6, and then of all for 16
 unfoldable pub checkFrom : List ℕ → ℕ → Outcome ℕ
 checkFrom bs i = firstOf (rowsFrom i (recordsFrom bs i (count bs - i))) (sizeOutcome bs)
+
+-- so few records may be compared pair by pair: longer lists must not cost a square
+abbrev pub few : ℕ
+few = 16
 
 -- the first i records pass 3 to 6
 abbrev pub Passed : List ℕ → ℕ → Type 0

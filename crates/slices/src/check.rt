@@ -14,7 +14,7 @@ ghost use Prim.Native.Nat.{_<_, _≤_};
 ghost use Rattle.slices.specs.Limits.{maxRecords};
 ghost use Rattle.slices.specs.Record.{count};
 ghost use Rattle.slices.specs.Refusals.{checkOutcome, checked};
-ghost use Rattle.slices.specs.Inner.{fault, numberAt, fell, Risen, Passed, Sound, FirstRefused};
+ghost use Rattle.slices.specs.Inner.{fault, numberAt, few, fell, Risen, Passed, Sound, FirstRefused};
 
 // In a list of up to so many records, each is compared with all before it.
 const FEW: usize = 16;
@@ -59,8 +59,9 @@ fn number_at(list: &[u8], place: usize) -> u8
     number
 }
 
-// How many of the first records are sound: each passes, and agrees with all before it.
+// A number of first records that are sound: each passes, and agrees with all before it. It goes over all pairs, so only few records are allowed.
 fn sound(list: &[u8]) -> usize
+    requires { ⌜ count (now list) ≤ few ⌝ }
     ensures { λ i. ⌜ Sound (now (list .entry)) i ⌝ }
 {
     let n = list.len() / RECORD;

@@ -68,8 +68,8 @@ module _ (bs : List ℕ) where
   pub other-here : (i : ℕ) → i < count bs → sizeOutcome bs ≡ sizesFrom bs i → twoSizes (recordsFrom bs 0 i) (recordAt bs i) ≡ true → FirstOther bs i
   other-here i h e t = record { within = omega arith; says = rw (ne-eqb i (count bs) (λ z. omega arith)) (e ∙ sizes-here i h t) }
 
-  pub other-none : sizeOutcome bs ≡ done (count bs) → FirstOther bs (count bs)
-  other-none e = record { within = le-refl (count bs); says = rw (eq-eqb (count bs) (count bs) refl) e }
+  pub no-other : sizeOutcome bs ≡ done (count bs) → FirstOther bs (count bs)
+  no-other e = record { within = le-refl (count bs); says = rw (eq-eqb (count bs) (count bs) refl) e }
 
   -- ---- a record and those before it, by their places
 

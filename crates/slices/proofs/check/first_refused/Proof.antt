@@ -5,7 +5,7 @@ use mathlib.Core.Path.{sym, ap, _∙_}
 use Rattle.slices.specs.Record.{count}
 use Rattle.slices.specs.Inner.{fault, fell, Risen, Passed}
 use Rattle.slices.proofs.Laws.Refusals.{refused-here, refused-later}
-use Rattle.slices.proofs.Laws.Sizes.{one-more, risen-more, agreed-accepted, other-none}
+use Rattle.slices.proofs.Laws.Sizes.{one-more, risen-more, agreed-accepted, no-other}
 use Rattle.slices.proofs.check.first_refused.Statement.{statement}
 use Rattle.slices.proofs.check.first_refused.Tie as tie
 
@@ -60,7 +60,7 @@ unfolding count
 returns-2 c =
     let done = c .before in
     let l = done .before .loop .inv in
-    refused-later _ (λ j h. l .1 j (omega arith)) _ (other-none _ (agreed-accepted _ _ (done .loop-test .left) (l .2 (c .if2 .taken) .agreed)))
+    refused-later _ (λ j h. l .1 j (omega arith)) _ (no-other _ (agreed-accepted _ _ (done .loop-test .left) (l .2 (c .if2 .taken) .agreed)))
 
 two-sizes-at-requires : tie.Need-two-sizes-at-requires Inv-loop μ-loop
 two-sizes-at-requires c κs = c .before .before .before .before .pre .0

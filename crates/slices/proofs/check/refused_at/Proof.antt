@@ -2,19 +2,20 @@
 use native.Mathlib.Omega.{arith}
 use Rattle.slices.specs.Record.{count}
 use Rattle.slices.proofs.Laws.Refusals.{refused-later}
-use Rattle.slices.proofs.Laws.Sizes.{agreed-accepted, other-none, risen-none}
+use Rattle.slices.proofs.Laws.Sizes.{agreed-accepted, no-other, risen-none}
 use borrow.Author.Needs.{needs}
 use Rattle.slices.proofs.check.refused_at.Statement.{statement}
 use Rattle.slices.proofs.check.refused_at.Tie as tie
 
 sound-requires : tie.Need-sound-requires
-sound-requires c κs = search needs
+unfolding count
+sound-requires c κs = omega arith
 
 returns : tie.Need-returns
 unfolding count
 returns c =
     let s = c .before .sound .ensures in
-    refused-later _ (λ j h. s .passed j (omega arith)) _ (other-none _ (agreed-accepted _ _ (omega arith) (s .agreed)))
+    refused-later _ (λ j h. s .passed j (omega arith)) _ (no-other _ (agreed-accepted _ _ (omega arith) (s .agreed)))
 
 first-refused-requires : tie.Need-first-refused-requires
 first-refused-requires c κs =

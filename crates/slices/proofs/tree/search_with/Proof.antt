@@ -8,7 +8,7 @@ use lib.ListN.{length}
 use Rattle.slices.specs.Record.{count}
 use Rattle.slices.specs.Inner.{sizeOutcome}
 use Rattle.slices.specs.Tree.{Room}
-use Rattle.slices.proofs.Laws.Sizes.{sizesFrom, sizes-start, sizes-next, sizes-end, other-here, other-none}
+use Rattle.slices.proofs.Laws.Sizes.{sizesFrom, sizes-start, sizes-next, sizes-end, other-here, no-other}
 use Rattle.slices.proofs.tree.search_with.Statement.{statement}
 use Rattle.slices.proofs.tree.search_with.Tie as tie
 
@@ -58,7 +58,7 @@ same-length-2 c = c .before .loop .inv .0
 
 returns-2 : tie.Need-returns-2 Inv-loop μ-loop
 unfolding count
-returns-2 c = other-none _ (c .before .loop .inv .2 ∙ sizes-end _ _ (c .loop-test .left))
+returns-2 c = no-other _ (c .before .loop .inv .2 ∙ sizes-end _ _ (c .loop-test .left))
 
 pub search-with-spec : {M : Type 1} → statement M
 search-with-spec =
