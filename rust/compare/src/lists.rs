@@ -71,7 +71,7 @@ fn records(rng: &mut Rng, shape: u64) -> u64 {
     match rng.below(2_000) {
         0..=4 => LIST_RECORDS as u64 - 8 + rng.below(17),
         5..=40 if shape == COMB => TIDIED_RECORDS as u64 / 2 - 32 + rng.below(80),
-        5..=160 if shape == SLICES => 150 + rng.below(300),
+        5..=300 if shape == SLICES => 150 + rng.below(300),
         5..=60 => rng.below(120),
         _ => rng.below(11),
     }

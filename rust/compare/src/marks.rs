@@ -18,12 +18,14 @@ struct Mark {
     met: usize,
 }
 
-const MARKS: [Mark; 7] = [
+const MARKS: [Mark; 9] = [
     Mark { name: "random, zeros with a size", is: several_sized_zeros, met: 0 },
     Mark { name: "random, views fed back", is: view_with_holes, met: 0 },
     Mark { name: "random, zeros of other size", is: zeros_of_other_size, met: 5 },
     Mark { name: "random, many slices", is: many_slices, met: 0 },
+    Mark { name: "random, slices alike", is: slices_alike, met: 0 },
     Mark { name: "random, two sizes of many", is: two_sizes_of_many, met: 16 },
+    Mark { name: "random, two sizes of alike", is: two_sizes_of_alike, met: 16 },
     Mark { name: "random, two sizes apart", is: two_sizes_apart, met: 16 },
     Mark { name: "random, empty of other size", is: empty_of_other_size, met: 16 },
 ];
@@ -78,10 +80,20 @@ fn many_slices(records: &[Record]) -> bool {
     ids.len() > 100 && falls > 1
 }
 
+/// Many in a long list, whose ids have their low 12 bits in common.
+fn slices_alike(records: &[Record]) -> bool {
+    let low: HashSet<u64> = records.iter().map(|record| record.id % 4_096).collect();
+    many_slices(records) && records.len() > 256 && low.len() < 4
+}
+
 fn two_sizes_of_many(records: &[Record]) -> bool {
     let ids: HashSet<u64> = records.iter().map(|record| record.id).collect();
     let sizes: HashSet<(u64, u64)> = records.iter().map(|r| (r.id, r.size)).collect();
     many_slices(records) && !ids.contains(&0) && sizes.len() > ids.len()
+}
+
+fn two_sizes_of_alike(records: &[Record]) -> bool {
+    slices_alike(records) && two_sizes_of_many(records)
 }
 
 /// One slice, and another size.

@@ -110,6 +110,10 @@ pub fn read_plan(
 /// Writes the plan that copies the first `k` records into the new slice `new_id`, and the
 /// list that has one record in their stead. Refusals: 8, 1 to 6, 16, 10, 9, 12.
 ///
+/// Once the plan is copied out, the old list and the new one read the same bytes, also with the
+/// same records appended to both. A call takes a list with its appended records as one: a slice
+/// must have one size in all of them.
+///
 /// ```
 /// use ezumokarin::{compact, records, Compacted, Record};
 /// let first = Record { pos: 0, id: 7, size: 5, off: 0, len: 5 };
