@@ -4,17 +4,26 @@ mod ids;
 mod new_list;
 
 use blocks::block_allowed;
+use outcomes::Answer;
 use outcomes::Refusal;
 use outcomes::refusals;
-use plans::PIECE;
-use plans::walk;
+use plans::rooms;
 use slices::Checked;
 use slices::RECORD;
 use slices::check;
-ghost use Prim.Native.Nat.{_<_, _≤_};
+ghost use mathlib.Core.Path.{_≡_};
+ghost use mathlib.Core.Bool.{true};
+ghost use Prim.Native.Nat.{_-_, _≤_};
 ghost use lib.ListN.{length};
-ghost use Rattle.outcomes.specs.Outcome.{done, firstOf};
+ghost use Rattle.codec.specs.All.{All};
+ghost use Rattle.blocks.specs.Blocks.{blockAllowed};
+ghost use Rattle.outcomes.specs.Answers.{Answers};
+ghost use Rattle.outcomes.specs.Outcome.{done, firstOf, delivered};
+ghost use Rattle.plans.specs.Piece.{encodePieces};
+ghost use Rattle.plans.specs.Plan.{pieces};
 ghost use Rattle.slices.specs.Accepts.{Accepts};
+ghost use Rattle.slices.specs.Limits.{chunk, maxRecords};
+ghost use Rattle.slices.specs.Passes.{Passes};
 ghost use Rattle.slices.specs.Record.{count, records};
 ghost use Rattle.compaction.specs.Calls.{both, deliveredBoth, laterRows, compactOutcome, Compacts};
 
@@ -30,6 +39,20 @@ struct Span {
     end: u32,
 }
 
+// Answers with the pieces of the positions from `from` up to `end` of a list.
+fn planned(list: &[u8], from: u32, end: u32, block: u32, plan: &mut [u8]) -> Answer
+    requires { ⌜ All Passes (records (now list)) ⌝ }
+    requires { ⌜ (count (now list) ≤ maxRecords) × (from ≤ end) × (end ≤ chunk) ⌝ }
+    requires { ⌜ blockAllowed block ≡ true ⌝ }
+    ensures { λ r. ⌜ Answers (delivered (encodePieces (pieces block (records (now (list .entry))) from (end - from))) (length (now (plan .entry)))) (now (plan .entry)) r (now (plan .exit)) ⌝ }
+{
+    let n = list.len() / RECORD;
+    if n <= 32 {
+        return rooms::small(list, from, end, block, plan);
+    }
+    rooms::many(list, from, end, block, plan)
+}
+
 // Answers with the plan and the new list of a compaction that is not refused before: both lengths are known before either buffer is touched.
 fn compact_first(
     list: &[u8],
@@ -40,7 +63,7 @@ fn compact_first(
     new_list: &mut [u8],
 ) -> Compacted
     requires { ⌜ Accepts (now list) ⌝ }
-    requires { ⌜ 0 < block ⌝ }
+    requires { ⌜ blockAllowed block ≡ true ⌝ }
     requires { ⌜ k ≤ count (now list) ⌝ }
     ensures { λ r. ⌜ Compacts (deliveredBoth (both block (records (now (list .entry))) k «new_id») (length (now (plan .entry))) (length (now («new_list» .entry)))) (now (plan .entry)) (now («new_list» .entry)) r (now (plan .exit)) (now («new_list» .exit)) ⌝ }
 {
@@ -49,19 +72,19 @@ fn compact_first(
     let span = ends::span(firsts);
     let from = span.from;
     let end = span.end;
-    let plan_bytes = walk::count_pieces(firsts, from, end, block) * PIECE;
-    if plan.len() < plan_bytes {
-        return Compacted::Refused(refusals::refusal(refusals::SHORT_BUFFER));
-    }
     let list_bytes = new_list::stand_in_bytes(from, end, new_id) + (list.len() - cut);
     if new_list.len() < list_bytes {
         return Compacted::Refused(refusals::refusal(refusals::SHORT_BUFFER));
     }
-    walk::write_pieces(firsts, from, end, block, plan);
-    new_list::write_list(list, cut, from, end, new_id, new_list);
-    Compacted::Wrote {
-        plan: plan_bytes,
-        list: list_bytes,
+    match planned(firsts, from, end, block, plan) {
+        Answer::Refused(refusal) => Compacted::Refused(refusal),
+        Answer::Wrote(plan_bytes) => {
+            new_list::write_list(list, cut, from, end, new_id, new_list);
+            Compacted::Wrote {
+                plan: plan_bytes,
+                list: list_bytes,
+            }
+        }
     }
 }
 
@@ -75,7 +98,7 @@ fn compact_accepted(
     new_list: &mut [u8],
 ) -> Compacted
     requires { ⌜ Accepts (now list) ⌝ }
-    requires { ⌜ 0 < block ⌝ }
+    requires { ⌜ blockAllowed block ≡ true ⌝ }
     ensures { λ r. ⌜ Compacts (firstOf (laterRows (records (now (list .entry))) block k «new_id» (length (now (plan .entry))) (length (now («new_list» .entry)))) (done (both block (records (now (list .entry))) k «new_id»))) (now (plan .entry)) (now («new_list» .entry)) r (now (plan .exit)) (now («new_list» .exit)) ⌝ }
 {
     if ((list.len() / RECORD) as u64) < k {

@@ -1,5 +1,5 @@
 -- Inner: what the steps of the code find. It serves the contracts of inner functions alone. Assumes nothing.
-use Prim.Native.Nat.{ℕ, _-_, _<_, _≤_}
+use Prim.Native.Nat.{ℕ, _+_, _-_, _^_, _<_, _≤_}
 use mathlib.Core.Path.{_≡_}
 use mathlib.Core.List.{List, _++_, map}
 use Rattle.codec.specs.Fixed.{bigEndian}
@@ -12,7 +12,8 @@ use Rattle.slices.specs.declared.Source.the-variants.{Nothing, Zero, Byte}
 use Rattle.runs.specs.Runs.{Run, runs}
 use Rattle.runs.specs.Inner.{earlier}
 use Rattle.plans.specs.declared.Location.{Location}
-use Rattle.plans.specs.declared.Piece.{Piece}
+use Rattle.plans.specs.declared.Location.the-variants.{Hole, In}
+use Rattle.plans.specs.Piece.{objectMark, zerosMark}
 
 -- a byte of a slice lies inside it
 abbrev pub Inside : Source → Type 0
@@ -26,9 +27,24 @@ pub record InBlock (B : ℕ) (a : Source) (d r : ℕ) : Type 0 where
   pub most : r ≤ d
   pub onwards : (k : ℕ) → k < r → location B (shift a k) ≡ onward (location B a) k
 
--- where in the store a piece lies: its object, and the place in the block
-unfoldable pub encodeObject : Piece → List ℕ
-encodeObject p = bigEndian 8 (p .id) ++ (bigEndian 4 (p .block) ++ (bigEndian 4 (p .length) ++ bigEndian 4 (p .at)))
+-- a block of B bytes has 2 ^ bits
+pub record Shifts (B bits : ℕ) : Type 0 where
+  pub power : B ≡ 2 ^ bits
+  pub few : bits < 32
+
+-- the slice offset that a record with a slice gives to a position
+abbrev pub offsetIn : Record → ℕ → ℕ
+offsetIn r p = r .off + (p - r .pos)
+
+-- where in the store a piece lies, as bytes: its object, and the place in the block
+unfoldable pub objectBytes : Location → List ℕ
+objectBytes Hole = bigEndian 8 0 ++ (bigEndian 4 0 ++ (bigEndian 4 0 ++ bigEndian 4 0))
+objectBytes (In i b l a) = bigEndian 8 i ++ (bigEndian 4 b ++ (bigEndian 4 l ++ bigEndian 4 a))
+
+-- the mark of a piece, by where it lies
+unfoldable pub markOf : Location → ℕ
+markOf Hole = zerosMark
+markOf (In i b l a) = objectMark
 
 -- of the plan of the positions from `from` up to `end`, the runs from position p on
 unfoldable pub piecesLeft : ℕ → List Record → (from end p : ℕ) → List (Run Location)

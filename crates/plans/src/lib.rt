@@ -1,13 +1,18 @@
 // Where the bytes of a read lie, in maximal pieces.
+mod bytes;
 mod locations;
-mod pieces;
-pub mod walk;
+mod objects;
+mod reach;
+pub mod rooms;
+mod shifts;
+mod walk;
 
 use blocks::block_allowed;
 use outcomes::Answer;
 use outcomes::refusals;
 use slices::CHUNK;
 use slices::Checked;
+use slices::RECORD;
 use slices::check;
 ghost use Prim.Native.Nat.{_≤_};
 ghost use lib.ListN.{length};
@@ -28,12 +33,6 @@ pub enum Location {
         length: u32,
         at: u32,
     },
-}
-
-// A run of locations: its first, and the position after its last.
-pub struct LocationRun {
-    pub first: Location,
-    pub end: u32,
 }
 
 // A piece of a plan, as its 30 bytes say it.
@@ -92,7 +91,11 @@ pub fn read_plan(
             Checked::Refused(refusal) => Answer::Refused(refusal),
             Checked::Accepted(_) => {
                 let read = cut(chunk_len, start, count);
-                walk::answer_pieces(list, read.from, read.end, block_size as u32, out)
+                let n = list.len() / RECORD;
+                if n <= 32 {
+                    return rooms::small(list, read.from, read.end, block_size as u32, out);
+                }
+                rooms::many(list, read.from, read.end, block_size as u32, out)
             }
         }
     } else {

@@ -1,69 +1,101 @@
 // The pieces of a plan, from the first on: counted, and written.
 use crate::PIECE;
-use crate::locations;
-use crate::pieces;
+use crate::bytes;
+use crate::reach;
+use crate::shifts;
 use outcomes::Answer;
 use outcomes::refusals;
+use resolve::segments;
 ghost use mathlib.Core.Path.{_≡_};
-ghost use Prim.Native.Nat.{_-_, _<_, _≤_};
+ghost use mathlib.Core.Bool.{true, cond};
+ghost use Prim.Native.Nat.{_+_, _-_, _*_, _/_, _^_, _<_, _≤_};
 ghost use lib.ListN.{length};
-ghost use Rattle.codec.specs.All.{All};
 ghost use Rattle.codec.specs.Splice.{splice};
 ghost use Rattle.outcomes.specs.Answers.{Answers};
 ghost use Rattle.outcomes.specs.Outcome.{delivered};
-ghost use Rattle.slices.specs.Passes.{Passes};
+ghost use Rattle.slices.specs.Limits.{chunk};
 ghost use Rattle.slices.specs.Record.{records};
-ghost use Rattle.plans.specs.Piece.{encodePieces};
+ghost use Rattle.resolve.specs.Resolved.{Ready};
+ghost use Rattle.plans.specs.Inner.{Shifts};
+ghost use Rattle.plans.specs.Piece.{pieceSize, encodePieces};
 ghost use Rattle.plans.specs.Plan.{pieces};
 
-// How many pieces the plan of the positions from `from` up to `end` has.
-pub fn count_pieces(list: &[u8], from: u32, end: u32, block: u32) -> usize
-    requires { ⌜ All Passes (records (now list)) ⌝ }
-    requires { ⌜ from ≤ end ⌝ }
-    requires { ⌜ 0 < block ⌝ }
-    ensures { λ r. ⌜ (r ≡ length (pieces block (records (now (list .entry))) from (end - from))) × (r ≤ end) ⌝ }
-{
-    let mut count = 0;
-    let mut p = from;
-    while p < end {
-        let run = locations::piece_at(list, p, end, block);
-        p = run.end;
-        count += 1;
-    }
-    count
-}
-
-// Writes these pieces to the front of a buffer that has room for them.
-pub fn write_pieces(list: &[u8], from: u32, end: u32, block: u32, out: &mut [u8])
-    requires { ⌜ All Passes (records (now list)) ⌝ }
-    requires { ⌜ from ≤ end ⌝ }
-    requires { ⌜ 0 < block ⌝ }
-    requires { ⌜ length (encodePieces (pieces block (records (now list)) from (end - from))) ≤ length (now out) ⌝ }
-    ensures { λ _. ⌜ now (out .exit) ≡ splice (now (out .entry)) 0 (encodePieces (pieces block (records (now (list .entry))) from (end - from))) ⌝ }
+// Writes the pieces of the positions from `from` up to `end` to the front of a buffer that has room for them, or only counts their bytes; how
+// many bytes they have.
+fn walk_pieces(
+    list: &[u8],
+    marks: &[u32],
+    tops: &[u16],
+    m: usize,
+    from: u32,
+    end: u32,
+    block: u32,
+    bits: u32,
+    write: bool,
+    out: &mut [u8],
+) -> usize
+    requires { ⌜ Ready (now list) (now marks) (now tops) m ⌝ }
+    requires { ⌜ (from < end) × (end ≤ chunk) × Shifts block bits ⌝ }
+    requires { ⌜ (write ≡ true → length (encodePieces (pieces block (records (now list)) from (end - from))) ≤ length (now out)) ⌝ }
+    ensures { λ r. ⌜ r ≡ length (encodePieces (pieces block (records (now (list .entry))) from (end - from))) ⌝ }
+    ensures { λ _. ⌜ now (out .exit) ≡ cond write (splice (now (out .entry)) 0 (encodePieces (pieces block (records (now (list .entry))) from (end - from)))) (now (out .entry)) ⌝ }
 {
     let mut p = from;
+    let mut k = segments::find(marks, m, from);
     let mut to = 0;
     while p < end {
-        let run = locations::piece_at(list, p, end, block);
-        let e = run.end;
-        let first = run.first;
-        pieces::write_piece(out, to, pieces::piece_of(p - from, e - p, first));
+        let top = tops[k];
+        let run = reach::reach(list, marks, tops, m, k, p, end, block, bits);
+        let at = p;
+        p = run.end;
+        k = run.segment;
+        bytes::put_if(
+            write,
+            list,
+            top,
+            at,
+            at - from,
+            p - at,
+            block,
+            bits,
+            out,
+            to,
+        );
         to += PIECE;
-        p = e;
     }
+    to
 }
 
-// Answers with these pieces.
-pub(crate) fn answer_pieces(list: &[u8], from: u32, end: u32, block: u32, out: &mut [u8]) -> Answer
-    requires { ⌜ All Passes (records (now list)) ⌝ }
-    requires { ⌜ from ≤ end ⌝ }
-    requires { ⌜ 0 < block ⌝ }
+// Whether a buffer of so many bytes has room for all pieces that can come: two a segment, and one a block.
+fn roomy(m: usize, from: u32, end: u32, bits: u32, room: usize) -> bool
+    requires { ⌜ (m ≤ chunk) × (from ≤ end) × (bits < 32) ⌝ }
+    ensures { λ r. ⌜ (r ≡ true → (m + m + (end - from) / 2 ^ bits) * pieceSize ≤ room) ⌝ }
+{
+    m + m + shifts::number_of(end - from, bits) as usize <= room / PIECE
+}
+
+// Answers with these pieces. They are counted first only where they may have no room.
+pub(crate) fn answer(
+    list: &[u8],
+    marks: &[u32],
+    tops: &[u16],
+    m: usize,
+    from: u32,
+    end: u32,
+    block: u32,
+    bits: u32,
+    out: &mut [u8],
+) -> Answer
+    requires { ⌜ Ready (now list) (now marks) (now tops) m ⌝ }
+    requires { ⌜ (from < end) × (end ≤ chunk) × Shifts block bits ⌝ }
     ensures { λ r. ⌜ Answers (delivered (encodePieces (pieces block (records (now (list .entry))) from (end - from))) (length (now (out .entry)))) (now (out .entry)) r (now (out .exit)) ⌝ }
 {
-    let need = count_pieces(list, from, end, block) * PIECE;
+    if roomy(m, from, end, bits, out.len()) {
+        return Answer::Wrote(walk_pieces(list, marks, tops, m, from, end, block, bits, true, out));
+    }
+    let need = walk_pieces(list, marks, tops, m, from, end, block, bits, false, out);
     if out.len() < need {
         return Answer::Refused(refusals::refusal(refusals::SHORT_BUFFER));
     }
-    write_pieces(list, from, end, block, out);
-    Answer::Wrote(need)
+    Answer::Wrote(walk_pieces(list, marks, tops, m, from, end, block, bits, true, out))
 }

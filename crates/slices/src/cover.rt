@@ -12,7 +12,7 @@ ghost use Rattle.slices.specs.Cover.{given, cover};
 ghost use Rattle.slices.specs.Passes.{Passes};
 
 // The source that record i gives to the position d behind its first.
-fn given(list: &[u8], i: usize, d: u32) -> Source
+pub fn given(list: &[u8], i: usize, d: u32) -> Source
     requires { ⌜ i * recordSize + recordSize ≤ length (now list) ⌝ }
     requires { ⌜ Passes (recordAt (now list) i) ⌝ }
     requires { ⌜ d < recordAt (now list) i .len ⌝ }

@@ -18,7 +18,7 @@ pub fn read_pos(list: &[u8], i: usize) -> u32
 }
 
 // The id of record i.
-pub(crate) fn read_id(list: &[u8], i: usize) -> u64
+pub fn read_id(list: &[u8], i: usize) -> u64
     requires { ⌜ i * recordSize + recordSize ≤ length (now list) ⌝ }
     ensures { λ r. ⌜ r ≡ recordAt (now (list .entry)) i .id ⌝ }
 {
@@ -26,11 +26,19 @@ pub(crate) fn read_id(list: &[u8], i: usize) -> u64
 }
 
 // The size of record i's slice.
-pub(crate) fn read_size(list: &[u8], i: usize) -> u32
+pub fn read_size(list: &[u8], i: usize) -> u32
     requires { ⌜ i * recordSize + recordSize ≤ length (now list) ⌝ }
     ensures { λ r. ⌜ r ≡ recordAt (now (list .entry)) i .size ⌝ }
 {
     fixed::read_be32(list, i * RECORD + 12)
+}
+
+// The slice offset of record i's first byte.
+pub fn read_off(list: &[u8], i: usize) -> u32
+    requires { ⌜ i * recordSize + recordSize ≤ length (now list) ⌝ }
+    ensures { λ r. ⌜ r ≡ recordAt (now (list .entry)) i .off ⌝ }
+{
+    fixed::read_be32(list, i * RECORD + 16)
 }
 
 // The number of positions of record i.
@@ -46,11 +54,10 @@ pub fn read_record(list: &[u8], i: usize) -> Record
     requires { ⌜ i * recordSize + recordSize ≤ length (now list) ⌝ }
     ensures { λ r. ⌜ r ≡ recordAt (now (list .entry)) i ⌝ }
 {
-    let at = i * RECORD;
     let pos = read_pos(list, i);
     let id = read_id(list, i);
     let size = read_size(list, i);
-    let off = fixed::read_be32(list, at + 16);
+    let off = read_off(list, i);
     let len = read_len(list, i);
     Record {
         pos,

@@ -8,6 +8,9 @@ pub mod OneSize
 pub mod RunCover
 pub mod Tidied
 pub mod Steps
+pub mod Segments
+pub mod Tops
 pub mod Calls
+pub mod Rooms
 pub mod ViewBack
 pub mod Again

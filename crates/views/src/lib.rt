@@ -1,13 +1,14 @@
 // The resolved view and the tidied list of a slice list.
+mod bytes;
 mod maximal;
-pub mod segments;
+mod rooms;
 mod walk;
 
 use outcomes::Answer;
 use outcomes::refusals;
 use slices::CHUNK;
 use slices::Checked;
-use slices::Source;
+use slices::RECORD;
 use slices::check;
 ghost use lib.ListN.{length};
 ghost use Rattle.outcomes.specs.Answers.{Answers};
@@ -15,12 +16,6 @@ ghost use Rattle.views.specs.Calls.{viewOutcome, tidyOutcome};
 
 // The most records that a tidied list may have.
 pub const TIDIED: usize = 2048;
-
-// A run of the cover: its first source, and the position after its last.
-pub struct Run {
-    pub first: Source,
-    pub end: u32,
-}
 
 // Writes the resolved view of a list, for a chunk of the given length.
 pub fn view(list: &[u8], chunk_len: u64, out: &mut [u8]) -> Answer
@@ -33,8 +28,14 @@ pub fn view(list: &[u8], chunk_len: u64, out: &mut [u8]) -> Answer
         Checked::Refused(refusal) => Answer::Refused(refusal),
         Checked::Accepted(_) => {
             let end = chunk_len as u32;
-            let count = walk::count_runs(list, end, true);
-            walk::answer_runs(list, end, true, count, out)
+            let n = list.len() / RECORD;
+            if n <= 4 {
+                return rooms::few(list, end, true, out);
+            }
+            if n <= 32 {
+                return rooms::small(list, end, true, out);
+            }
+            rooms::many(list, end, true, out)
         }
     }
 }
@@ -46,11 +47,14 @@ pub fn tidy(list: &[u8], out: &mut [u8]) -> Answer
     match check::check_list(list) {
         Checked::Refused(refusal) => Answer::Refused(refusal),
         Checked::Accepted(_) => {
-            let count = walk::count_runs(list, CHUNK, false);
-            if TIDIED < count {
-                return Answer::Refused(refusals::refusal(refusals::TIDIED_TOO_LONG));
+            let n = list.len() / RECORD;
+            if n <= 4 {
+                return rooms::few(list, CHUNK, false, out);
             }
-            walk::answer_runs(list, CHUNK, false, count, out)
+            if n <= 32 {
+                return rooms::small(list, CHUNK, false, out);
+            }
+            rooms::many(list, CHUNK, false, out)
         }
     }
 }

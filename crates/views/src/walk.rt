@@ -1,113 +1,110 @@
 // The runs of a list's cover, from the first on: counted, and written as records.
+use crate::TIDIED;
+use crate::bytes;
 use crate::maximal;
 use outcomes::Answer;
 use outcomes::refusals;
 use slices::RECORD;
-use slices::Record;
-use slices::Source;
-use slices::records;
 ghost use mathlib.Core.Path.{_≡_};
+ghost use mathlib.Core.Bool.{true, cond};
 ghost use Prim.Native.Nat.{_≤_};
 ghost use lib.ListN.{length};
-ghost use Rattle.codec.specs.All.{All};
 ghost use Rattle.codec.specs.Splice.{splice};
 ghost use Rattle.outcomes.specs.Answers.{Answers};
-ghost use Rattle.outcomes.specs.Outcome.{delivered};
-ghost use Rattle.slices.specs.Passes.{Passes};
+ghost use Rattle.slices.specs.Limits.{chunk};
+ghost use Rattle.resolve.specs.Resolved.{Ready};
 ghost use Rattle.slices.specs.Record.{records, encodeAll};
-ghost use Rattle.views.specs.View.{asRecord};
-ghost use Rattle.views.specs.Inner.{wanted, viewFrom};
+ghost use Rattle.views.specs.Inner.{shown, viewFrom, tooLong, Roomy, runsOutcome};
 
-// Whether a run is written: all are, or only those that are covered.
-fn wanted(all: bool, first: Source) -> bool
-    ensures { λ r. ⌜ r ≡ wanted all first ⌝ }
+// Whether a call refuses so many records: only a tidied list has a limit.
+fn too_long(all: bool, count: usize) -> bool
+    ensures { λ r. ⌜ r ≡ tooLong all count ⌝ }
+{
+    if all {
+        return false;
+    }
+    TIDIED < count
+}
+
+// Whether m records are not too many, and have room in a buffer of so many bytes. So the runs, which are no more than the segments,
+// need not be counted.
+fn roomy(all: bool, m: usize, room: usize) -> bool
+    ensures { λ r. ⌜ (r ≡ true → Roomy all m room) ⌝ }
+{
+    if too_long(all, m) {
+        return false;
+    }
+    m <= room / RECORD
+}
+
+// Whether a run with the record `top` on top of its first position is written.
+fn shown(all: bool, top: u16) -> bool
+    ensures { λ r. ⌜ r ≡ shown all top ⌝ }
 {
     if all {
         return true;
     }
-    if maximal::is_nothing(first) {
-        return false;
-    }
-    true
+    top != 0
 }
 
-// How many runs there are to write.
-pub(crate) fn count_runs(list: &[u8], end: u32, all: bool) -> usize
-    requires { ⌜ All Passes (records (now list)) ⌝ }
-    ensures { λ r. ⌜ (r ≡ length (viewFrom all (records (now (list .entry))) 0 end)) × (r ≤ end) ⌝ }
-{
-    let mut count = 0;
-    let mut p = 0;
-    while p < end {
-        let run = maximal::run_at(list, p, end);
-        p = run.end;
-        let first = run.first;
-        if wanted(all, first) {
-            count += 1;
-        }
-    }
-    count
-}
-
-// A run as a record: of len positions from p on, the first with the source a.
-fn as_record(p: u32, len: u32, a: Source) -> Record
-    ensures { λ r. ⌜ r ≡ asRecord p len a ⌝ }
-{
-    match a {
-        Source::Nothing => Record {
-            pos: p,
-            id: 0,
-            size: len,
-            off: 0,
-            len,
-        },
-        Source::Zero => Record {
-            pos: p,
-            id: 0,
-            size: 0,
-            off: 0,
-            len,
-        },
-        Source::Byte { id, size, off } => Record {
-            pos: p,
-            id,
-            size,
-            off,
-            len,
-        },
-    }
-}
-
-// Writes the runs' records to the front of a buffer that has room for them.
-fn write_runs(list: &[u8], end: u32, all: bool, out: &mut [u8])
-    requires { ⌜ All Passes (records (now list)) ⌝ }
-    requires { ⌜ length (encodeAll (viewFrom all (records (now list)) 0 end)) ≤ length (now out) ⌝ }
-    ensures { λ _. ⌜ now (out .exit) ≡ splice (now (out .entry)) 0 (encodeAll (viewFrom all (records (now (list .entry))) 0 end)) ⌝ }
+// Writes the runs' records to the front of a buffer that has room for them, or only counts their bytes; how many bytes they have.
+fn walk_runs(
+    list: &[u8],
+    marks: &[u32],
+    tops: &[u16],
+    m: usize,
+    end: u32,
+    all: bool,
+    write: bool,
+    out: &mut [u8],
+) -> usize
+    requires { ⌜ Ready (now list) (now marks) (now tops) m ⌝ }
+    requires { ⌜ end ≤ chunk ⌝ }
+    requires { ⌜ (write ≡ true → length (encodeAll (viewFrom all (records (now list)) 0 end)) ≤ length (now out)) ⌝ }
+    ensures { λ r. ⌜ r ≡ length (encodeAll (viewFrom all (records (now (list .entry))) 0 end)) ⌝ }
+    ensures { λ _. ⌜ now (out .exit) ≡ cond write (splice (now (out .entry)) 0 (encodeAll (viewFrom all (records (now (list .entry))) 0 end))) (now (out .entry)) ⌝ }
 {
     let mut p = 0;
+    let mut k = 0;
     let mut at = 0;
     while p < end {
-        let run = maximal::run_at(list, p, end);
+        let top = tops[k];
+        let run = maximal::reach(list, marks, tops, m, k, p, end);
         let from = p;
         p = run.end;
-        let first = run.first;
-        if wanted(all, first) {
-            records::write_record(out, at, as_record(from, p - from, first));
+        k = run.segment;
+        if shown(all, top) {
+            bytes::put_if(write, list, top, from, p - from, out, at);
             at += RECORD;
         }
     }
+    at
 }
 
-// Answers with the runs' records, of which there are `count`.
-pub(crate) fn answer_runs(list: &[u8], end: u32, all: bool, count: usize, out: &mut [u8]) -> Answer
-    requires { ⌜ All Passes (records (now list)) ⌝ }
-    requires { ⌜ (count ≡ length (viewFrom all (records (now list)) 0 end)) × (count ≤ end) ⌝ }
-    ensures { λ r. ⌜ Answers (delivered (encodeAll (viewFrom all (records (now (list .entry))) 0 end)) (length (now (out .entry)))) (now (out .entry)) r (now (out .exit)) ⌝ }
+// Answers with the records of a resolved list's runs up to `end`: all of them, or those that are covered. They are counted first only
+// where they may be too many, or have no room.
+pub(crate) fn answer(
+    list: &[u8],
+    marks: &[u32],
+    tops: &[u16],
+    m: usize,
+    end: u32,
+    all: bool,
+    out: &mut [u8],
+) -> Answer
+    requires { ⌜ Ready (now list) (now marks) (now tops) m ⌝ }
+    requires { ⌜ end ≤ chunk ⌝ }
+    ensures { λ r. ⌜ Answers (runsOutcome all (now (list .entry)) end (length (now (out .entry)))) (now (out .entry)) r (now (out .exit)) ⌝ }
 {
-    let need = count * RECORD;
+    if roomy(all, m, out.len()) {
+        return Answer::Wrote(walk_runs(list, marks, tops, m, end, all, true, out));
+    }
+    let need = walk_runs(list, marks, tops, m, end, all, false, out);
+    if too_long(all, need / RECORD) {
+        return Answer::Refused(refusals::refusal(refusals::TIDIED_TOO_LONG));
+    }
     if out.len() < need {
         return Answer::Refused(refusals::refusal(refusals::SHORT_BUFFER));
     }
-    write_runs(list, end, all, out);
-    Answer::Wrote(need)
+    Answer::Wrote(walk_runs(list, marks, tops, m, end, all, true, out))
 }

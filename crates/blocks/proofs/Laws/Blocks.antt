@@ -1,12 +1,12 @@
 -- Laws of block sizes: which are allowed, and that the code's test finds them. Assumes nothing.
-use Prim.Native.Nat.{ℕ, _%_, _^_, _<_, _≤_}
+use Prim.Native.Nat.{ℕ, _+_, _%_, _^_, _<_, _≤_}
 use native.Mathlib.Omega.{arith}
 use native.Mathlib.Decide.{decLt}
 use lib.Pow.{pow-mono}
 use mathlib.Core.Path.{_≡_, refl}
 use mathlib.Core.Logic.{_↔_}
 use mathlib.Core.Bool.{Bool, true, false, _&&_, false≢true}
-use lib.Dec.{leb, eqb}
+use lib.Dec.{leb, eqb, lit<}
 use borrow.Author.Tests.{leb-true, le-leb, lt-leb}
 use Rattle.blocks.specs.Blocks.{smallest, largest, powerBelow, blockAllowed}
 use Rattle.blocks.proofs.Laws.Powers.{power-in, power-out, power-test}
@@ -61,3 +61,25 @@ module _ (B : ℕ) where
   pub block-rest : smallest ≤ B → B ≤ largest → eqb (largest % B) 0 ≡ blockAllowed B
   unfolding blockAllowed
   block-rest h l = rw (le-leb smallest B h, le-leb B largest l) (power-test 24 B)
+
+-- ---- the exponent, found from below
+
+-- 2 ^ k is not above B
+pub record UpTo (B k : ℕ) : Type 0 where
+  pub low : 2 ^ k ≤ B
+  pub few : k < 25
+
+module _ (B : ℕ) (h : blockAllowed B ≡ true) where
+  pub up-start : UpTo B 16
+  up-start = record { low = block-range B h .0; few = lit< tt }
+
+  pub up-more : (k : ℕ) → UpTo B k → 2 ^ k < B → UpTo B (k + 1)
+  up-more k u l = go (allowed-is B h)
+    where
+      go : Allowed B → UpTo B (k + 1)
+      go a = below (decLt k (a .exponent)) (decLt (a .exponent) 25)
+        where
+          below : Dec (k < a .exponent) → Dec (a .exponent < 25) → UpTo B (k + 1)
+          below (yes i) (yes j) = record { low = omega (arith, a .power, pow-mono {i = k + 1} {j = a .exponent} (omega arith)); few = omega arith }
+          below (yes i) (no j) = absurd (omega (arith, a .power, a .high, pow-mono {i = 25} {j = a .exponent} (omega arith)))
+          below (no i) j = absurd (omega (arith, a .power, pow-mono {i = a .exponent} {j = k} (omega arith)))

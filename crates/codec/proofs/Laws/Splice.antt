@@ -6,7 +6,7 @@ use native.Mathlib.Numerals.{add-one}
 use mathlib.Core.Path.{_≡_, sym, ap, _∙_}
 use mathlib.Core.List.{List, [], _∷_, _++_, append-assoc, append-nil}
 use lib.ListN.{length, getD, take, drop, set, length-append, length-take, length-drop, take-append-drop, drop-of-length-le}
-use lib.Seq.{set-split, take-at, drop-at, take-suc, length-take-le, drop-append-add, drop-drop}
+use lib.Seq.{set-split, take-at, drop-at, take-suc, length-take-le, drop-append-add, drop-drop, take-append-le, take-take}
 use Rattle.codec.specs.Splice.{splice}
 use Rattle.codec.specs.Inner.{Puts}
 
@@ -113,3 +113,16 @@ puts-as b p e h = rw (← e) (record { leaves = p .leaves; ends = p .ends; fits 
 -- the front of the buffer is what was put there
 pub puts-front : {out last a : List ℕ} {room end : ℕ} → Puts out 0 a room end last → take end last ≡ a
 puts-front {out} {last} {a} {room} {end} p = ap (take end) (p .leaves) ∙ take-splice out a end (p .ends ∙ zero-add (length a))
+
+-- what was put behind, and then what stands before it
+pub splice-before : (out : List ℕ) (at : ℕ) (a b : List ℕ) (n : ℕ) → length a ≡ n → at + n + length b ≤ length out
+    → splice (splice out (at + n) b) at a ≡ splice out at (a ++ b)
+unfolding splice
+splice-before out at a b n e h =
+    let l : length (take (at + n) out) ≡ at + n = length-take-le (at + n) out (omega arith) in
+    let t : take at (take (at + n) out ++ (b ++ drop (at + n + length b) out)) ≡ take at out =
+    take-append-le at (take (at + n) out) (b ++ drop (at + n + length b) out) (omega arith) ∙ take-take at (at + n) out (omega arith) in
+    let d : drop (at + length a) (take (at + n) out ++ (b ++ drop (at + n + length b) out)) ≡ b ++ drop (at + n + length b) out =
+    drop-at (take (at + n) out) (b ++ drop (at + n + length b) out) (at + length a) (omega arith) in
+    let s : at + length (a ++ b) ≡ at + n + length b = simp length-append (omega arith) in
+    rw (t, d, s, append-assoc)

@@ -1,5 +1,7 @@
 -- What `compact` answers, case by case, and exactly when each refusal is given. Assumes nothing.
 use Prim.Native.Nat.{ℕ, _<_, _≤_}
+use native.Mathlib.Omega.{arith}
+use native.Mathlib.Decide.{decLt}
 use mathlib.Core.Path.{_≡_, sym, ap, _∙_}
 use mathlib.Core.Bool.{Bool, true, false, not}
 use mathlib.Core.Logic.{_↔_}
@@ -68,8 +70,13 @@ module _ (b : Both) (planRoom listRoom : ℕ) where
   pub short-plan : planRoom < length (b .plan) → deliveredBoth b planRoom listRoom ≡ refused (refusal number.shortBuffer 0)
   short-plan h = short-holds (b .plan) planRoom (done b) _ h
 
-  pub short-list : length (b .plan) ≤ planRoom → listRoom < length (b .list) → deliveredBoth b planRoom listRoom ≡ refused (refusal number.shortBuffer 0)
-  short-list h l = short-passes (b .plan) planRoom (done b) (tooShort (b .list) listRoom ∷ []) h ∙ short-holds (b .list) listRoom (done b) [] l
+  -- whether the plan has room or not
+  pub short-list : listRoom < length (b .list) → deliveredBoth b planRoom listRoom ≡ refused (refusal number.shortBuffer 0)
+  short-list l = go (decLt planRoom (length (b .plan)))
+    where
+      go : Dec (planRoom < length (b .plan)) → deliveredBoth b planRoom listRoom ≡ refused (refusal number.shortBuffer 0)
+      go (yes h) = short-plan h
+      go (no h) = short-passes (b .plan) planRoom (done b) (tooShort (b .list) listRoom ∷ []) (omega arith) ∙ short-holds (b .list) listRoom (done b) [] l
 
   pub room-for-both : length (b .plan) ≤ planRoom → length (b .list) ≤ listRoom → deliveredBoth b planRoom listRoom ≡ done b
   unfolding firstOf

@@ -41,7 +41,7 @@ compact-accepted-requires : tie.Need-compact-accepted-requires
 compact-accepted-requires c κs =
     let told = c .before .before in
     let a = check-accepts _ _ (accepted told) in
-    (a, omega (arith, ranged (told .before .before .before)))
+    (a, sym (told .before .before .before .before .block-allowed .ensures) ∙ told .before .before .before .if1 .taken)
 
 refusal-requires : tie.Need-refusal-requires
 refusal-requires c κs = search needs

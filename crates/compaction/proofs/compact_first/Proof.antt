@@ -13,7 +13,7 @@ use Rattle.slices.specs.Record.{count, records}
 use Rattle.codec.proofs.Laws.All.{all-bytes}
 use Rattle.outcomes.proofs.Laws.Answers.{replies-refused}
 use Rattle.compaction.proofs.Laws.NewList.{stand-most}
-use Rattle.compaction.proofs.Laws.Delivery.{pieces-room, firsts-pass, first-short-plan, first-short-list, first-done}
+use Rattle.compaction.proofs.Laws.Delivery.{firsts-pass, firsts-few, first-short-list, first-refused, first-done}
 use borrow.Author.Needs.{needs}
 use Rattle.compaction.proofs.compact_first.Statement.{statement}
 use Rattle.compaction.proofs.compact_first.Tie as tie
@@ -38,91 +38,84 @@ slice-aggregate-firsts c =
 span-requires : tie.Need-span-requires
 span-requires c κs = passing (c .before .before .before)
 
-count-pieces-requires : tie.Need-count-pieces-requires
-count-pieces-requires c κs =
-    let known = c .before .before .before .before in
-    (passing known, (c .span .ensures .order, known .before .pre .1 .0))
+stand-in-bytes-requires : tie.Need-stand-in-bytes-requires
+stand-in-bytes-requires c κs = search needs
 
-mul-plan-bytes : tie.Need-mul-plan-bytes
-mul-plan-bytes c = search needs
+sub-list-bytes : tie.Need-sub-list-bytes
+unfolding count
+sub-list-bytes c = omega (arith, c .before .before .before .before .before .before .pre .1 .1)
+
+add-list-bytes : tie.Need-add-list-bytes
+unfolding count
+add-list-bytes c =
+    let span = c .before in
+    let start = span .before .before .before .before .before in
+    omega (arith, start .pre .0 .few, c .stand-in-bytes .ensures, stand-most (span .span .result .from) (span .span .result .end) (start .args .new-id))
 
 refusal-requires : tie.Need-refusal-requires
 refusal-requires c κs = search needs
 
 returns : tie.Need-returns
 returns c =
-    let counted = c .before .before in
-    let span = counted .before in
+    let new = c .before .before in
+    let span = new .before in
     let known = span .before .before .before .before in
     let start = known .before in
     replies-refused _ _ _ _
-    (first-short-plan _ (bytes known) (start .pre .0 .whole) _ (start .pre .1 .1) _ _ (span .span .ensures) _ (start .args .new-id) _ _ (counted .count-pieces .ensures .0) refl (now (start .args .plan)) (now (start .args .new-list)) (c .before .if1 .taken))
+    (first-short-list _ (bytes known) (start .pre .0 .whole) _ (start .pre .1 .1) _ _ (span .span .ensures) _ (start .args .new-id) _ (new .stand-in-bytes .ensures) (now (start .args .plan)) (now (start .args .new-list)) (c .before .if1 .taken))
     (c .refusal .ensures) (refl, (refl, tt))
 
-stand-in-bytes-requires : tie.Need-stand-in-bytes-requires
-stand-in-bytes-requires c κs = search needs
-
-sub-list-bytes : tie.Need-sub-list-bytes
-unfolding count
-sub-list-bytes c =
-    let start = c .before .before .before .before .before .before .before .before in
-    omega (arith, start .pre .1 .1)
-
-add-list-bytes : tie.Need-add-list-bytes
-unfolding count
-add-list-bytes c =
-    let span = c .before .before .before in
-    let start = span .before .before .before .before .before in
-    omega (arith, start .pre .0 .few, c .stand-in-bytes .ensures, stand-most (span .span .result .from) (span .span .result .end) (start .args .new-id))
-
-refusal-requires-2 : tie.Need-refusal-requires-2
-refusal-requires-2 c κs = search needs
-
-returns-2 : tie.Need-returns-2
-returns-2 c =
+planned-requires : tie.Need-planned-requires
+planned-requires c κs =
     let new = c .before .before in
-    let counted = new .before .before in
-    let span = counted .before in
+    let span = new .before in
     let known = span .before .before .before .before in
     let start = known .before in
-    replies-refused _ _ _ _
-    (first-short-list _ (bytes known) (start .pre .0 .whole) _ (start .pre .1 .1) _ _ (span .span .ensures) _ (start .args .new-id) _ _ (counted .count-pieces .ensures .0) (new .stand-in-bytes .ensures) (now (start .args .plan)) (now (start .args .new-list)) (new .before .if1 .left) (c .before .if2 .taken))
-    (c .refusal2 .ensures) (refl, (refl, tt))
+    let e = span .span .ensures in
+    (passing known, ((firsts-few (now (start .args .list)) (start .args .k * recordSize) (start .pre .0 .few), e .order, e .inside), start .pre .1 .0))
 
-write-pieces-requires : tie.Need-write-pieces-requires
-write-pieces-requires c κs =
-    let new = c .before .before in
-    let counted = new .before .before in
-    let span = counted .before in
-    let known = span .before .before .before .before in
-    (passing known, (span .span .ensures .order, (known .before .pre .1 .0, pieces-room _ _ _ (counted .count-pieces .ensures .0) (new .before .if1 .left))))
+enum-known-refusal : tie.Need-enum-known-refusal
+enum-known-refusal c = search needs
+
+enum-known-plan-bytes : tie.Need-enum-known-plan-bytes
+enum-known-plan-bytes c = search needs
 
 write-list-requires : tie.Need-write-list-requires
 unfolding count
 write-list-requires c κs =
-    let room = c .before .before .before .before .before in
-    let new = room .before in
-    let start = new .before .before .before .before .before .before .before .before in
-    (omega (arith, start .pre .1 .1), omega (arith, new .stand-in-bytes .ensures, room .if2 .left))
+    let new = c .before .before .before .before .before .before .before .before .before in
+    let span = new .before in
+    let known = span .before .before .before .before in
+    let start = known .before in
+    let room = c .before .before .before .before .before .before .before .before in
+    (omega (arith, start .pre .1 .1), omega (arith, new .stand-in-bytes .ensures, room .if1 .left))
 
 same-length : tie.Need-same-length
 same-length c = search needs
 
+returns-2 : tie.Need-returns-2
+returns-2 c =
+    let new = c .before .before .before .before .before .before .before .before in
+    let span = new .before in
+    let known = span .before .before .before .before in
+    let start = known .before in
+    let planned = c .before .before .before .before .before in
+    first-refused _ (bytes known) (start .pre .0 .whole) _ (start .pre .1 .1) _ _ (span .span .ensures) _ (start .args .new-id) _ (new .stand-in-bytes .ensures) _ _ (c .before .before .before .before .before .before .before .if1 .left) _ _ (planned .planned .ensures) _ (c .before .refusal2 .given .1)
+
 same-length-2 : tie.Need-same-length-2
 same-length-2 c = search needs
 
+same-length-3 : tie.Need-same-length-3
+same-length-3 c = search needs
+
 returns-3 : tie.Need-returns-3
 returns-3 c =
-    let listed = c .before .before in
-    let planned = listed .before .before .before .before in
-    let room = planned .before .before in
-    let new = room .before in
-    let counted = new .before .before in
-    let span = counted .before in
+    let new = c .before .before .before .before .before .before .before .before .before .before .before .before in
+    let span = new .before in
     let known = span .before .before .before .before in
     let start = known .before in
-    first-done _ (bytes known) (start .pre .0 .whole) _ (start .pre .1 .1) _ _ (span .span .ensures) _ (start .args .new-id) _ _ (counted .count-pieces .ensures .0) (new .stand-in-bytes .ensures) _ _
-    (new .before .if1 .left) (room .if2 .left) _ _ (planned .write-pieces .ensures) (listed .write-list .ensures)
+    let planned = c .before .before .before .before .before .before .before .before .before in
+    first-done _ (bytes known) (start .pre .0 .whole) _ (start .pre .1 .1) _ _ (span .span .ensures) _ (start .args .new-id) _ (new .stand-in-bytes .ensures) _ _ (c .before .before .before .before .before .before .before .before .before .before .before .if1 .left) _ _ (planned .planned .ensures) _ (c .before .before .before .before .before .plan-bytes .given .1) _ (c .before .before .write-list .ensures)
 
 pub compact-first-spec : {M : Type 1} → statement M
 compact-first-spec =
@@ -131,17 +124,17 @@ compact-first-spec =
     mul-cut
     slice-aggregate-firsts
     span-requires
-    count-pieces-requires
-    mul-plan-bytes
-    refusal-requires
-    returns
     stand-in-bytes-requires
     sub-list-bytes
     add-list-bytes
-    refusal-requires-2
-    returns-2
-    write-pieces-requires
+    refusal-requires
+    returns
+    planned-requires
+    enum-known-refusal
+    enum-known-plan-bytes
     write-list-requires
     same-length
+    returns-2
     same-length-2
+    same-length-3
     returns-3)

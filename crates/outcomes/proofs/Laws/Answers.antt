@@ -1,13 +1,16 @@
 -- Laws of answers: what calls return and leave, case by case, and what an answer tells. Assumes nothing.
-use Prim.Native.Nat.{ℕ}
+use Prim.Native.Nat.{ℕ, _<_, _≤_}
 use mathlib.Core.Path.{_≡_, refl, sym, ap, _∙_}
 use mathlib.Core.List.{List}
 use native.Mathlib.Omega.{arith}
+use native.Mathlib.Decide.{decLt}
 use lib.ListN.{length, take}
 use Rattle.codec.specs.All.{All}
 use Rattle.codec.specs.Splice.{splice}
 use Rattle.codec.proofs.Laws.Splice.{take-splice}
-use Rattle.outcomes.specs.Outcome.{OutcomeOf, refused, done, Outcome}
+use Rattle.outcomes.specs.Numbers.{shortBuffer}
+use Rattle.outcomes.specs.Outcome.{OutcomeOf, refused, done, Outcome, refusal, delivered}
+use Rattle.outcomes.proofs.Laws.Outcome.{short-refused, short-done}
 use Rattle.outcomes.specs.Answers.{answerOf, leftIn, Lent, Replies, Answers, Front, Written}
 use Rattle.outcomes.specs.declared.Refusal.{Refusal}
 use Rattle.outcomes.specs.declared.Answer.{Answer}
@@ -60,3 +63,38 @@ pub said-wrote : (o : Outcome (List ℕ)) (before after : List ℕ) (n : ℕ) �
 unfolding answerOf leftIn
 said-wrote (refused q) before after n a = let z : _≡_ {A = ℕ} 0 1 = cc (a .answers) in absurd (omega arith)
 said-wrote (done bs) before after n a = record { bytes = bs; outcome = refl; first = front-of before after bs n (cc (a .answers)) (a .leaves .0) }
+
+-- ---- what the answer of a delivery tells
+
+module _ (bs out after : List ℕ) (x : Answer) (a : Answers (delivered bs (length out)) out x after) where
+  short-case : length out < length bs → Answers (refused (refusal shortBuffer 0)) out x after
+  short-case h = rw (short-refused bs (length out) h) at a
+
+  done-case : length bs ≤ length out → Answers (done bs) out x after
+  done-case h = rw (short-done bs (length out) h) at a
+
+  pub short-said : (r : Refusal) → x ≡ Refused r → (length out < length bs) × (r ≡ refusal shortBuffer 0) × (after ≡ out)
+  unfolding answerOf leftIn
+  short-said r e = go (decLt (length out) (length bs))
+    where
+      go : Dec (length out < length bs) → (length out < length bs) × (r ≡ refusal shortBuffer 0) × (after ≡ out)
+      go (yes h) =
+          let y = short-case h in
+          (h, cc (e, y .answers), y .leaves .0)
+      go (no h) =
+          let y = done-case (omega arith) in
+          let z : _≡_ {A = ℕ} 0 1 = cc (e, y .answers) in
+          absurd (omega arith)
+
+  pub done-said : (n : ℕ) → x ≡ Wrote n → (length bs ≤ length out) × (n ≡ length bs) × (after ≡ splice out 0 bs)
+  unfolding answerOf leftIn
+  done-said n e = go (decLt (length out) (length bs))
+    where
+      go : Dec (length out < length bs) → (length bs ≤ length out) × (n ≡ length bs) × (after ≡ splice out 0 bs)
+      go (yes h) =
+          let y = short-case h in
+          let z : _≡_ {A = ℕ} 0 1 = cc (e, y .answers) in
+          absurd (omega arith)
+      go (no h) =
+          let y = done-case (omega arith) in
+          (omega arith, cc (e, y .answers), y .leaves .0)

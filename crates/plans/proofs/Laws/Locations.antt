@@ -2,9 +2,9 @@
 use Prim.Native.Nat.{ℕ, suc, _+_, _-_, _*_, _/_, _%_, _≤_, _<_, min}
 use native.Mathlib.Omega.{arith}
 use native.Mathlib.Nat.{add-zero, div-add-mod'}
-use mathlib.Core.Path.{_≡_, refl, ap, _∙_}
-use mathlib.Core.Logic.{inl, inr}
-use mathlib.Core.Bool.{true, _&&_, false≢true}
+use mathlib.Core.Path.{_≡_, refl, sym, ap, _∙_}
+use mathlib.Core.Logic.{inl, inr, _≢_}
+use mathlib.Core.Bool.{Bool, true, false, _&&_, false≢true}
 use mathlib.Core.List.{List}
 use lib.Arith.{digits-div, digits-mod}
 use lib.Dec.{eqb}
@@ -20,6 +20,7 @@ use Rattle.runs.specs.Inner.{Unbroken}
 use Rattle.views.proofs.Laws.Next.{shift-zero, next-is}
 use Rattle.codec.proofs.Laws.Bools.{and-both}
 use Rattle.slices.proofs.Laws.Sources.{Real, cover-real}
+use Rattle.resolve.proofs.Laws.Tops.{idOf}
 use Rattle.runs.proofs.Laws.Walk.{value-at}
 use Rattle.plans.specs.Location.{location, locationAt, nextLocation, onward}
 use Rattle.plans.specs.Inner.{Inside, InBlock}
@@ -47,12 +48,18 @@ location-hole B Zero h = refl
 location-hole B (Byte i z o) (inl e) = absurd (omega arith)
 location-hole B (Byte i z o) (inr e) = absurd (omega arith)
 
-pub block-hole : (B : ℕ) (s : Source) (d : ℕ) → OneOf 0 1 s → 0 < d → InBlock B s d d
-unfolding location onward shift
-block-hole B Nothing d h l = record { some = l; most = omega arith; onwards = λ k a. refl }
-block-hole B Zero d h l = record { some = l; most = omega arith; onwards = λ k a. refl }
-block-hole B (Byte i z o) d (inl e) l = absurd (omega arith)
-block-hole B (Byte i z o) d (inr e) l = absurd (omega arith)
+-- the same where its id says so
+pub id-hole : (B : ℕ) (s : Source) → Real s → idOf s ≡ 0 → location B s ≡ Hole
+unfolding location idOf
+id-hole B Nothing h e = refl
+id-hole B Zero h e = refl
+id-hole B (Byte i z o) h e = absurd (h .0 e)
+
+pub block-hole : (B : ℕ) (s : Source) (d : ℕ) → Real s → idOf s ≡ 0 → 0 < d → InBlock B s d d
+unfolding location onward shift idOf
+block-hole B Nothing d h e l = record { some = l; most = omega arith; onwards = λ k a. refl }
+block-hole B Zero d h e l = record { some = l; most = omega arith; onwards = λ k a. refl }
+block-hole B (Byte i z o) d h e l = absurd (h .0 e)
 
 -- ---- a byte of a slice
 
@@ -147,3 +154,30 @@ locations-on B rs p end e r s u h b = record { some = omega (arith, b .some); in
         let f = at (q - p) (omega arith) in
         let g = at (suc (q - p)) (omega arith) in
         rw (rw x at f, rw y at g) (next-onward (location B s) (q - p))
+
+-- ---- by the ids alone
+
+next-ids : (B : ℕ) (s t : Source) (k : ℕ) → nextLocation (onward (location B s) k) (location B t) ≡ true → idOf s ≡ idOf t
+unfolding nextLocation onward location idOf
+next-ids B Nothing Nothing k h = refl
+next-ids B Nothing Zero k h = refl
+next-ids B Nothing (Byte j u q) k h = absurd (false≢true h)
+next-ids B Zero Nothing k h = refl
+next-ids B Zero Zero k h = refl
+next-ids B Zero (Byte j u q) k h = absurd (false≢true h)
+next-ids B (Byte i z o) Nothing k h = absurd (false≢true h)
+next-ids B (Byte i z o) Zero k h = absurd (false≢true h)
+next-ids B (Byte i z o) (Byte j u q) k h = eqb-true i j (and-both (eqb i j) _ h .0)
+
+-- different ids part
+pub ids-part : (B : ℕ) (s t : Source) (k : ℕ) → idOf t ≢ idOf s → nextLocation (onward (location B s) k) (location B t) ≡ false
+ids-part B s t k n = go (nextLocation (onward (location B s) k) (location B t)) refl
+  where
+    go : (x : Bool) → nextLocation (onward (location B s) k) (location B t) ≡ x → x ≡ false
+    go true h = absurd (n (sym (next-ids B s t k h)))
+    go false h = refl
+
+-- no ids join
+pub ids-none : (B : ℕ) (s t : Source) (k : ℕ) → Real s → Real t → idOf s ≡ 0 → idOf t ≡ 0 → nextLocation (onward (location B s) k) (location B t) ≡ true
+unfolding nextLocation onward
+ids-none B s t k h g a b = rw (id-hole B s h a, id-hole B t g b)

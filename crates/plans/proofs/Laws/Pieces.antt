@@ -1,30 +1,58 @@
 -- Laws of pieces as bytes: how many there are, their parts as the code writes them, and that a plan that is written is read back.
 -- Assumes nothing.
-use Prim.Native.Nat.{ℕ, _+_, _*_}
+use Prim.Native.Nat.{ℕ, _+_, _*_, _/_, _%_, _^_, _≤_}
 use native.Mathlib.Omega.{arith}
 use native.Mathlib.Nat.{add-assoc}
 use mathlib.Core.Path.{_≡_, refl, sym, ap, _∙_}
+use mathlib.Core.Logic.{_≢_}
 use mathlib.Core.List.{List, [], _++_, append-assoc, append-nil}
 use lib.ListN.{length, length-append}
 use Rattle.codec.specs.All.{All}
 use Rattle.codec.specs.Fixed.{bigEndian}
 use Rattle.codec.proofs.Laws.Fixed.{length-bigEndian, numberAt-behind, field-back}
+use Rattle.codec.specs.Splice.{splice}
+use Rattle.codec.proofs.Laws.Splice.{length-splice, splices-2, splices-4, splice-before}
 use Rattle.codec.proofs.Laws.Groups.{length-encoded, groups-back}
 use Rattle.runs.specs.Runs.{Run}
 use Rattle.plans.specs.Piece.{pieceSize, pieceOf, encodePiece, encodeRun, encodePieces, decodePiece, locationOf, runOf, decodeRun, piecesIn, PieceFits, RunFits}
-use Rattle.plans.specs.Inner.{encodeObject}
+use Rattle.plans.specs.Inner.{Shifts, offsetIn, objectBytes, markOf}
+use Rattle.plans.specs.Location.{location}
+use Rattle.plans.proofs.Laws.Shifts.{quotient}
+use Rattle.blocks.specs.Blocks.{blockLength}
+use Rattle.slices.specs.Cover.{given}
+use Rattle.slices.proofs.Laws.Cover.{given-byte}
+use Rattle.slices.specs.declared.Record.{Record}
 use Rattle.plans.specs.declared.Location.{Location}
 use Rattle.plans.specs.declared.Location.the-variants.{Hole, In}
 use Rattle.plans.specs.declared.Piece.{Piece}
 
-pub length-encodeObject : (p : Piece) → length (encodeObject p) ≡ 20
-unfolding encodeObject
-length-encodeObject p = simp (length-append, length-bigEndian)
+pub length-objectBytes : (a : Location) → length (objectBytes a) ≡ 20
+unfolding objectBytes
+length-objectBytes Hole = simp (length-append, length-bigEndian)
+length-objectBytes (In i b l t) = simp (length-append, length-bigEndian)
 
--- mark, place, where in the store, length
-pub encode-parts : (p : Piece) → bigEndian 2 (p .mark) ++ (bigEndian 4 (p .place) ++ (encodeObject p ++ bigEndian 4 (p .len))) ≡ encodePiece p
-unfolding encodePiece encodeObject
-encode-parts p = simp append-assoc
+-- mark and place, where in the store, length
+encode-parts : (place n : ℕ) (a : Location) → (bigEndian 2 (markOf a) ++ bigEndian 4 place) ++ (objectBytes a ++ bigEndian 4 n) ≡ encodePiece (pieceOf place n a)
+unfolding encodePiece pieceOf objectBytes markOf
+encode-parts place n Hole = simp append-assoc
+encode-parts place n (In i b l t) = simp append-assoc
+
+-- put in the order length, mark and place, where in the store
+pub piece-put : (out o₁ o₂ o₃ : List ℕ) (to place n : ℕ) (a : Location) → to + pieceSize ≤ length out → o₁ ≡ splice out (to + 26) (bigEndian 4 n)
+    → o₂ ≡ splice o₁ to (bigEndian 2 (markOf a) ++ bigEndian 4 place) → o₃ ≡ splice o₂ (to + 6) (objectBytes a)
+    → o₃ ≡ splice out to (encodePiece (pieceOf place n a))
+piece-put out o₁ o₂ o₃ to place n a h e₁ e₂ e₃ =
+    let f = bigEndian 2 (markOf a) ++ bigEndian 4 place in
+    let b = objectBytes a in
+    let lf : length f ≡ 6 = simp (length-append, length-bigEndian) in
+    let lb : length (f ++ b) ≡ 26 = length-append f b ∙ omega (arith, lf, length-objectBytes a) in
+    let ln = length-bigEndian 4 n in
+    let l₁ : length o₁ ≡ length out = ap length e₁ ∙ length-splice out (to + 26) (bigEndian 4 n) (omega (arith, ln)) in
+    let x : o₃ ≡ splice o₁ to (f ++ b) = splices-2 o₁ to f b 6 lf (omega (arith, l₁)) e₂ e₃ in
+    x
+    ∙ ap (λ (o : List ℕ). splice o to (f ++ b)) e₁
+    ∙ splice-before out to (f ++ b) (bigEndian 4 n) 26 lb (omega (arith, ln))
+    ∙ ap (splice out to) (append-assoc f b (bigEndian 4 n) ∙ encode-parts place n a)
 
 pub length-encodePiece : (p : Piece) → length (encodePiece p) ≡ pieceSize
 unfolding encodePiece
@@ -37,6 +65,18 @@ length-encodeRun r = length-encodePiece (pieceOf (r .start) (r .len) (r .first))
 pub length-encodePieces : (rs : List (Run Location)) → length (encodePieces rs) ≡ length rs * pieceSize
 unfolding encodePieces
 length-encodePieces rs = length-encoded encodeRun pieceSize length-encodeRun rs
+
+-- ---- where in the store, put number by number
+
+pub object-put : (out : List ℕ) (to : ℕ) {o₁ o₂ o₃ o₄ : List ℕ} (B bits : ℕ) → Shifts B bits → (r : Record) (p : ℕ) → r .id ≢ 0 → to + 20 ≤ length out
+    → {i n l a : ℕ} → i ≡ r .id → o₁ ≡ splice out to (bigEndian 8 i) → n ≡ offsetIn r p / 2 ^ bits → o₂ ≡ splice o₁ (to + 8) (bigEndian 4 n)
+    → l ≡ blockLength B (r .size) (offsetIn r p / B) → o₃ ≡ splice o₂ (to + 12) (bigEndian 4 l) → a ≡ offsetIn r p % B → o₄ ≡ splice o₃ (to + 16) (bigEndian 4 a)
+    → o₄ ≡ splice out to (objectBytes (location B (given r p)))
+unfolding objectBytes location
+object-put out to B bits h r p z room {i = i} {n = n} {l = l} {a = a} hi e₁ hn e₂ hl e₃ ha e₄ =
+    rw (given-byte r p z, ← hi, ← hl, ← quotient B bits h (offsetIn r p) n hn, ← ha)
+    (splices-4 out to (bigEndian 8 i) (bigEndian 4 n) (bigEndian 4 l) (bigEndian 4 a) 8 12 16
+    (length-bigEndian 8 i) (ap (λ (k : ℕ). 8 + k) (length-bigEndian 4 n)) (ap (λ (k : ℕ). 12 + k) (length-bigEndian 4 l)) (omega arith) e₁ e₂ e₃ e₄)
 
 -- ---- one piece
 

@@ -11,6 +11,7 @@ use Rattle.slices.proofs.Laws.Refusals.{check-accepts}
 use Rattle.blocks.specs.Blocks.{smallest, largest}
 use Rattle.blocks.proofs.Laws.Blocks.{block-range}
 use Rattle.plans.proofs.Laws.Calls.{read-7, read-8, read-refused, read-accepted}
+use Rattle.slices.specs.Record.{count}
 use borrow.Author.Needs.{needs}
 use Rattle.plans.proofs.read_plan.Statement.{statement}
 use Rattle.plans.proofs.read_plan.Tie as tie
@@ -49,42 +50,71 @@ cut-requires : tie.Need-cut-requires
 unfolding chunk
 cut-requires c κs = omega arith
 
-cast-answer-pieces : tie.Need-cast-answer-pieces
-cast-answer-pieces c = omega (arith, ranged (c .before .before .before .before))
+cast-small : tie.Need-cast-small
+cast-small c = omega (arith, ranged (c .before .before .before .before .before))
 
-answer-pieces-requires : tie.Need-answer-pieces-requires
-answer-pieces-requires c κs =
-    let cut = c .before in
+small-requires : tie.Need-small-requires
+unfolding chunk count
+small-requires c κs =
+    let cut = c .before .before in
     let told = cut .before in
-    (check-accepts _ _ (accepted told) .pass, (cut .cut .ensures .order, omega (arith, ranged (told .before .before .before))))
-
-refusal-requires-2 : tie.Need-refusal-requires-2
-refusal-requires-2 c κs = search needs
-
-returns-2 : tie.Need-returns-2
-unfolding chunk
-returns-2 c =
-    let checked = c .before .before .before in
-    let tested = checked .before in
-    answers-refused _ _ _ (read-refused _ _ _ _ _ _ (tested .before .before .if1 .left) _ (tested .before .block-allowed .ensures) (tested .if2 .taken) _ (sym (checked .check-list .ensures) ∙ c .before .refusal2 .given .1))
+    let tested = told .before .before .before in
+    let accepts = check-accepts _ _ (accepted told) in
+    (accepts .pass, ((c .before .if3 .taken, cut .cut .ensures .order, omega (arith, cut .cut .ensures .within)), sym (tested .before .block-allowed .ensures) ∙ tested .if2 .taken))
 
 same-length : tie.Need-same-length
 same-length c = search needs
 
-returns-3 : tie.Need-returns-3
+returns-2 : tie.Need-returns-2
 unfolding chunk
-returns-3 c =
+returns-2 c =
     let answered = c .before .before in
-    let cut = answered .before .before in
+    let cut = answered .before .before .before in
     let told = cut .before in
     let tested = told .before .before .before in
     answers-as _ _ _ _ _
     (read-accepted _ _ _ _ _ _ (tested .before .before .if1 .left) _ (tested .before .block-allowed .ensures) (tested .if2 .taken) _ (accepted told) _ _ (cut .cut .ensures))
-    (answered .answer-pieces .ensures)
+    (answered .small .ensures)
+
+cast-many : tie.Need-cast-many
+cast-many c = omega (arith, ranged (c .before .before .before .before .before))
+
+many-requires : tie.Need-many-requires
+unfolding chunk count
+many-requires c κs =
+    let cut = c .before .before in
+    let told = cut .before in
+    let tested = told .before .before .before in
+    let accepts = check-accepts _ _ (accepted told) in
+    (accepts .pass, ((accepts .few, cut .cut .ensures .order, omega (arith, cut .cut .ensures .within)), sym (tested .before .block-allowed .ensures) ∙ tested .if2 .taken))
+
+refusal-requires-2 : tie.Need-refusal-requires-2
+refusal-requires-2 c κs = search needs
+
+returns-3 : tie.Need-returns-3
+unfolding chunk
+returns-3 c =
+    let checked = c .before .before .before in
+    let tested = checked .before in
+    answers-refused _ _ _ (read-refused _ _ _ _ _ _ (tested .before .before .if1 .left) _ (tested .before .block-allowed .ensures) (tested .if2 .taken) _ (sym (checked .check-list .ensures) ∙ c .before .refusal2 .given .1))
+
+same-length-2 : tie.Need-same-length-2
+same-length-2 c = search needs
 
 returns-4 : tie.Need-returns-4
 unfolding chunk
 returns-4 c =
+    let answered = c .before .before in
+    let cut = answered .before .before .before in
+    let told = cut .before in
+    let tested = told .before .before .before in
+    answers-as _ _ _ _ _
+    (read-accepted _ _ _ _ _ _ (tested .before .before .if1 .left) _ (tested .before .block-allowed .ensures) (tested .if2 .taken) _ (accepted told) _ _ (cut .cut .ensures))
+    (answered .many .ensures)
+
+returns-5 : tie.Need-returns-5
+unfolding chunk
+returns-5 c =
     let tested = c .before in
     answers-refusal _ _ _ _ (read-8 _ _ _ _ _ _ (tested .before .before .if1 .left) _ (tested .before .block-allowed .ensures) (tested .if2 .left)) (c .refusal3 .ensures)
 
@@ -100,10 +130,14 @@ read-plan-spec =
     enum-known-refusal
     enum-told
     cut-requires
-    cast-answer-pieces
-    answer-pieces-requires
-    refusal-requires-2
-    returns-2
+    cast-small
+    small-requires
     same-length
+    returns-2
+    cast-many
+    many-requires
+    refusal-requires-2
     returns-3
-    returns-4)
+    same-length-2
+    returns-4
+    returns-5)

@@ -36,7 +36,7 @@ over-next (Byte i s o) Nothing c d h k = absurd (false≢true h)
 over-next (Byte i s o) Zero c d h k = absurd (false≢true h)
 over-next (Byte i s o) (Byte j t p) c d h k = h
 
-given-next : (r : Record) (p : ℕ) → r .pos ≤ p → Dec (r .id ≡ 0) → Joins next (given r) p
+pub given-next : (r : Record) (p : ℕ) → r .pos ≤ p → Dec (r .id ≡ 0) → Joins next (given r) p
 unfolding next
 given-next r p h (yes z) = rw (given-zero r p z, given-zero r (suc p) z)
 given-next r p h (no z) =

@@ -4,9 +4,6 @@ use borrow.Author.Needs.{needs}
 use Rattle.slices.proofs.records.read_record.Statement.{statement}
 use Rattle.slices.proofs.records.read_record.Tie as tie
 
-mul-at : tie.Need-mul-at
-mul-at c = search needs
-
 read-pos-requires : tie.Need-read-pos-requires
 read-pos-requires c κs = search needs
 
@@ -16,11 +13,8 @@ read-id-requires c κs = search needs
 read-size-requires : tie.Need-read-size-requires
 read-size-requires c κs = search needs
 
-add-read-be32 : tie.Need-add-read-be32
-add-read-be32 c = search needs
-
-read-be32-requires : tie.Need-read-be32-requires
-read-be32-requires c κs = search needs
+read-off-requires : tie.Need-read-off-requires
+read-off-requires c κs = search needs
 
 read-len-requires : tie.Need-read-len-requires
 read-len-requires c κs = search needs
@@ -33,11 +27,9 @@ pub read-record-spec : {M : Type 1} → statement M
 read-record-spec =
     tie.close
     (tie.spec
-    mul-at
     read-pos-requires
     read-id-requires
     read-size-requires
-    add-read-be32
-    read-be32-requires
+    read-off-requires
     read-len-requires
     returns)

@@ -1,0 +1,99 @@
+-- Where a position lies, by the record on top of it. Assumes nothing.
+use Prim.Native.Nat.{ℕ, zero, suc, _+_, _-_, _*_, _%_, _≤_, _<_}
+use native.Mathlib.Omega.{arith}
+use mathlib.Core.Path.{_≡_, refl, sym, ap, _∙_}
+use mathlib.Core.Bool.{true, false}
+use mathlib.Core.Logic.{_≢_}
+use mathlib.Core.List.{List}
+use lib.ListN.{length}
+use Rattle.codec.specs.All.{All}
+use Rattle.slices.specs.Cover.{cover, given}
+use Rattle.slices.specs.Passes.{Passes}
+use Rattle.slices.specs.Limits.{recordSize}
+use Rattle.slices.specs.Record.{recordAt, records, count}
+use Rattle.slices.proofs.Laws.Record.{records-at}
+use Rattle.slices.proofs.Laws.Cover.{given-byte}
+use Rattle.slices.proofs.Laws.Sources.{cover-real}
+use Rattle.resolve.specs.Resolved.{OnTop}
+use Rattle.resolve.specs.Tops.{idOn}
+use Rattle.resolve.proofs.Laws.Resolved.{source-some}
+use Rattle.resolve.proofs.Laws.Tops.{idOf, id-cover}
+use Rattle.runs.specs.Inner.{Unbroken}
+use Rattle.views.specs.View.{next}
+use Rattle.plans.specs.Inner.{InBlock, markOf}
+use Rattle.plans.specs.Piece.{objectMark}
+use Rattle.plans.specs.Location.{location, locationAt, nextLocation, onward}
+use Rattle.plans.proofs.Laws.Locations.{id-hole, block-hole, block-byte, ids-part, ids-none, locations-on}
+use Rattle.slices.specs.declared.Source.the-variants.{Byte}
+use Rattle.plans.specs.declared.Location.the-variants.{Hole}
+
+module _ (B : ℕ) (bs : List ℕ) where
+  -- ---- two positions
+
+  module _ (a p b e k : ℕ) (s : OnTop bs a p (p + 1)) (t : OnTop bs b e (e + 1)) where
+    pub tops-part : idOn bs b ≢ idOn bs a → false ≡ nextLocation (onward (locationAt B (records bs) p) k) (locationAt B (records bs) e)
+    unfolding locationAt
+    tops-part n = sym (ids-part B (cover (records bs) p) (cover (records bs) e) k (λ q. n (sym (id-cover bs b e t) ∙ q ∙ id-cover bs a p s)))
+
+    pub tops-join : All Passes (records bs) → idOn bs a ≡ 0 → idOn bs b ≡ 0 → true ≡ nextLocation (onward (locationAt B (records bs) p) k) (locationAt B (records bs) e)
+    unfolding locationAt
+    tops-join h x y =
+        sym (ids-none B (cover (records bs) p) (cover (records bs) e) k (cover-real (records bs) h p) (cover-real (records bs) h e) (id-cover bs a p s ∙ x) (id-cover bs b e t ∙ y))
+
+  -- ---- one position
+
+  module _ (top p : ℕ) (t : OnTop bs top p (p + 1)) where
+    module _ (h : All Passes (records bs)) (z : idOn bs top ≡ 0) where
+      pub top-hole : locationAt B (records bs) p ≡ Hole
+      unfolding locationAt
+      top-hole = id-hole B (cover (records bs) p) (cover-real (records bs) h p) (id-cover bs top p t ∙ z)
+
+      -- zeros go on as far as the cover does
+      pub hole-on : (end e : ℕ) → Unbroken next (cover (records bs)) p end e → Unbroken nextLocation (locationAt B (records bs)) p end e
+      hole-on end e u =
+          let l = u .some in
+          let q : p + (e - p) ≡ e = omega arith in
+          rw q at (locations-on B (records bs) p end e (e - p) (cover (records bs) p) u refl (block-hole B (cover (records bs) p) (e - p) (cover-real (records bs) h p) (id-cover bs top p t ∙ z) (omega arith)))
+
+    module _ (i : ℕ) (is : top ≡ suc i) (n : recordAt bs i .id ≢ 0) where
+      pub top-byte : cover (records bs) p ≡ Byte (recordAt bs i .id) (recordAt bs i .size) (recordAt bs i .off + (p - recordAt bs i .pos))
+      top-byte = source-some bs top p i t is ∙ given-byte (recordAt bs i) p n
+
+      -- bytes go on up to the end of their block
+      pub byte-on : (end e o r : ℕ) → Unbroken next (cover (records bs)) p end e → o ≡ recordAt bs i .off + (p - recordAt bs i .pos)
+          → 0 < r → r ≤ e - p → r ≤ B - o % B → Unbroken nextLocation (locationAt B (records bs)) p end (p + r)
+      byte-on end e o r u q a b c =
+          locations-on B (records bs) p end e r (Byte (recordAt bs i .id) (recordAt bs i .size) o) u (rw q (sym top-byte))
+          (block-byte B (recordAt bs i .id) (recordAt bs i .size) o (e - p) r a b c)
+
+-- ---- the record that gives a byte
+
+-- record i, the top one, gives a byte of a slice to position p
+pub record Giving (bs : List ℕ) (top p i : ℕ) : Type 0 where
+  pub is : top ≡ suc i
+  pub inside : i * recordSize + recordSize ≤ length bs
+  pub passes : Passes (recordAt bs i)
+  pub from : recordAt bs i .pos ≤ p
+  pub to : p < recordAt bs i .pos + recordAt bs i .len
+  pub some : recordAt bs i .id ≢ 0
+
+within : (bs : List ℕ) (i : ℕ) → i < count bs → i * recordSize + recordSize ≤ length bs
+unfolding count
+within bs i l = omega arith
+
+pub top-giving : (bs : List ℕ) (top p w : ℕ) → All Passes (records bs) → OnTop bs top p (p + 1) → idOn bs top ≢ 0 → w ≡ top → Giving bs top p (w - 1)
+unfolding idOn
+top-giving bs zero p w h t n e = absurd (n refl)
+top-giving bs (suc i) p w h t n e =
+    let q : w - 1 ≡ i = omega arith in
+    let c = t .covering i refl in
+    rw q
+    (record { is = refl; inside = within bs i (c .0); passes = records-at Passes bs h i (c .0); from = c .1; to = omega (arith, c .2); some = n })
+
+pub top-location : (B : ℕ) (bs : List ℕ) (top p i : ℕ) → OnTop bs top p (p + 1) → Giving bs top p i → locationAt B (records bs) p ≡ location B (given (recordAt bs i) p)
+unfolding locationAt
+top-location B bs top p i t g = ap (location B) (source-some bs top p i t (g .is))
+
+pub giving-mark : (B : ℕ) (bs : List ℕ) (top p i : ℕ) → Giving bs top p i → objectMark ≡ markOf (location B (given (recordAt bs i) p))
+unfolding markOf location
+giving-mark B bs top p i g = rw (given-byte (recordAt bs i) p (g .some))

@@ -1,0 +1,39 @@
+-- `plans::bytes::put_front` meets its contract: the place, and the mark before it. Assumes nothing.
+use native.Mathlib.Omega.{arith}
+use mathlib.Core.Path.{ap, _∙_}
+use mathlib.Core.List.{List}
+use Prim.Native.Nat.{ℕ}
+use denote.Ref.{now}
+use Rattle.codec.specs.Fixed.{bigEndian}
+use Rattle.codec.specs.Splice.{splice}
+use Rattle.codec.proofs.Laws.Fixed.{length-bigEndian}
+use Rattle.codec.proofs.Laws.Splice.{splice-before}
+use borrow.Author.Needs.{needs}
+use Rattle.plans.proofs.bytes.put_front.Statement.{statement}
+use Rattle.plans.proofs.bytes.put_front.Tie as tie
+
+add-write-be32 : tie.Need-add-write-be32
+add-write-be32 c = search needs
+
+write-be32-requires : tie.Need-write-be32-requires
+write-be32-requires c κs = search needs
+
+write-mark-requires : tie.Need-write-mark-requires
+write-mark-requires c κs = search needs
+
+same-length : tie.Need-same-length
+same-length c = search needs
+
+returns : tie.Need-returns
+returns c =
+    let mark = c .before .before in
+    let place = mark .before .before .before .before in
+    let start = place .before .before .before in
+    let a = start .args in
+    mark .write-mark .ensures
+    ∙ ap (λ (o : List ℕ). splice o (a .to) (bigEndian 2 (a .mark))) (place .write-be32 .ensures)
+    ∙ splice-before (now (a .out)) (a .to) (bigEndian 2 (a .mark)) (bigEndian 4 (a .place)) 2 (length-bigEndian 2 (a .mark)) (omega (arith, start .pre, length-bigEndian 4 (a .place)))
+
+pub put-front-spec : {M : Type 1} → statement M
+put-front-spec =
+    tie.close (tie.spec add-write-be32 write-be32-requires write-mark-requires same-length returns)

@@ -1,0 +1,5 @@
+pub mod Resolved
+pub mod Sorted
+pub mod Set
+pub mod Sweep
+pub mod Tops
