@@ -1,0 +1,33 @@
+// Which segment of a view holds a position, found by halving.
+mod bytes;
+mod half;
+
+use outcomes::Refusal;
+use outcomes::refusals;
+use slices::RECORD;
+use slices::Record;
+ghost use mathlib.Core.Path.{_≡_};
+ghost use Rattle.seeking.specs.Seek.{seekView, sought};
+
+// The segment that holds a position, with its number in the row.
+pub enum Found {
+    Nowhere,
+    At { number: usize, segment: Record },
+}
+
+// What a search in bytes answers: what it found, or the refusal.
+pub enum Sought {
+    Looked(Found),
+    Refused(Refusal),
+}
+
+// The segment that holds a position, among the first `segments` of a view's bytes.
+pub fn find_in(view: &[u8], segments: u64, position: u64) -> Sought
+    ensures { λ r. ⌜ r ≡ sought (seekView (now (view .entry)) segments position) ⌝ }
+{
+    if view.len() % RECORD != 0 {
+        return Sought::Refused(refusals::refusal(refusals::NOT_WHOLE));
+    }
+    let n = half::fewer(segments, view.len() / RECORD);
+    Sought::Looked(bytes::seek(view, n, position))
+}
