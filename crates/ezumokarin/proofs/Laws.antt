@@ -11,6 +11,9 @@ use Rattle.ezumokarin.specs.Compact.{wroteBoth, plainCompacted}
 use Rattle.keys.specs.Keys.{Chunk as ChunkOf, chunkAnswer}
 use Rattle.names.specs.Names.{Object as ObjectOf, Full, objectAnswer, fullAnswer, volumePart}
 use Rattle.ezumokarin.specs.Names.{objectRead, fullRead, chunkRead, plainObject, plainChunk}
+use Rattle.seeking.specs.Seek.{sought}
+use Rattle.seeking.specs.declared.Found.{Found as FoundOf}
+use Rattle.ezumokarin.specs.Seeks.{foundIn, plainSought}
 use Rattle.ezumokarin.specs.Plain.{counted, wrote, plainChecked, plainAnswer}
 
 pub plain-counted : (o : Outcome ℕ) → plainChecked (checked o) ≡ counted o
@@ -46,3 +49,10 @@ pub plain-both : (o : Outcome Both) → plainCompacted (compactAnswer o) ≡ wro
 unfolding plainCompacted answerOf wroteBoth
 plain-both (refused r) = refl
 plain-both (done w) = refl
+
+-- ---- a search
+
+pub plain-sought : (o : Outcome FoundOf) → plainSought (sought o) ≡ foundIn o
+unfolding plainSought answerOf foundIn
+plain-sought (refused r) = refl
+plain-sought (done f) = refl

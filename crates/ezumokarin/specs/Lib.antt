@@ -1,3 +1,4 @@
 pub mod Plain
 pub mod Names
 pub mod Compact
+pub mod Seeks

@@ -1,17 +1,21 @@
 // Answers as structs of numbers.
 use crate::Chunk;
 use crate::Compact;
+use crate::Found;
 use crate::Object;
 use crate::Plain;
 use compaction::Compacted;
 use keys::ChunkKey;
 use names::ObjectName;
 use outcomes::Answer;
+use seeking::Sought;
 use slices::Checked;
+use slices::Record;
 ghost use mathlib.Core.Path.{_≡_};
 ghost use Rattle.ezumokarin.specs.Compact.{plainCompacted};
 ghost use Rattle.ezumokarin.specs.Names.{plainObject, plainChunk};
 ghost use Rattle.ezumokarin.specs.Plain.{plainChecked, plainAnswer};
+ghost use Rattle.ezumokarin.specs.Seeks.{noSegment, aSegment, plainSought, plainFound};
 
 pub(crate) fn of_checked(c: Checked) -> Plain
     ensures { λ r. ⌜ r ≡ plainChecked c ⌝ }
@@ -106,5 +110,57 @@ pub(crate) fn of_compacted(c: Compacted) -> Compact
             plan: 0,
             list: 0,
         },
+    }
+}
+
+// No segment, with a refusal's number and place or with zeros.
+fn no_segment(refusal: u64, place: u64) -> Found
+    ensures { λ r. ⌜ r ≡ noSegment refusal place ⌝ }
+{
+    Found {
+        refusal,
+        place,
+        found: 0,
+        segment: 0,
+        pos: 0,
+        id: 0,
+        size: 0,
+        off: 0,
+        len: 0,
+    }
+}
+
+// The segment with the given number.
+fn a_segment(number: u64, s: Record) -> Found
+    ensures { λ r. ⌜ r ≡ aSegment number s ⌝ }
+{
+    Found {
+        refusal: 0,
+        place: 0,
+        found: 1,
+        segment: number,
+        pos: s.pos as u64,
+        id: s.id,
+        size: s.size as u64,
+        off: s.off as u64,
+        len: s.len as u64,
+    }
+}
+
+pub(crate) fn of_found(f: seeking::Found) -> Found
+    ensures { λ r. ⌜ r ≡ plainFound f ⌝ }
+{
+    match f {
+        seeking::Found::Nowhere => no_segment(0, 0),
+        seeking::Found::At { number, segment } => a_segment(number as u64, segment),
+    }
+}
+
+pub(crate) fn of_sought(s: Sought) -> Found
+    ensures { λ r. ⌜ r ≡ plainSought s ⌝ }
+{
+    match s {
+        Sought::Looked(f) => of_found(f),
+        Sought::Refused(r) => no_segment(r.number as u64, r.place as u64),
     }
 }

@@ -5,6 +5,7 @@ mod compacting;
 mod lists;
 mod naming;
 mod reading;
+mod seeks;
 
 // What a call that counts or writes answers.
 #[repr(C)]
@@ -41,4 +42,18 @@ pub struct Chunk {
     pub place: u64,
     pub inode: u64,
     pub index: u64,
+}
+
+// The segment of a view that holds a position: `found` is 1 where there is one, and then `segment` is its number in the view.
+#[repr(C)]
+pub struct Found {
+    pub refusal: u64,
+    pub place: u64,
+    pub found: u64,
+    pub segment: u64,
+    pub pos: u64,
+    pub id: u64,
+    pub size: u64,
+    pub off: u64,
+    pub len: u64,
 }
