@@ -1,3 +1,8 @@
 -- Laws of the definitions of specs/.
 pub mod Halve
 pub mod Seek
+pub mod Edges
+pub mod Loaded
+pub mod LentRow
+pub mod InBytes
+pub mod Source

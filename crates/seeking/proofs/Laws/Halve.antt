@@ -117,3 +117,8 @@ module _ (first : ℕ → ℕ) (p N : ℕ) (Low High : ℕ → Type 0) (lows : (
       go (no s) ih =
           let e : high ≡ suc low = omega arith in
           rw (halve-stops first p (suc n) low high (omega arith)) (record { below = h; here = a; next = rw e at b })
+
+-- it ends below n, whatever the row holds
+pub halve-below : (first : ℕ → ℕ) (p n : ℕ) → 0 < n → halve first p n 0 n < n
+halve-below first p n h =
+    halve-ends first p n (λ _. Unit {0}) (λ _. Unit {0}) (λ m a b. tt) (λ m a b. tt) n 0 n h (omega arith) (le-refl n) tt tt .below
