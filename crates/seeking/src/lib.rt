@@ -1,6 +1,7 @@
 // Which segment of a view holds a position, found by halving.
 mod bytes;
 mod half;
+mod lent;
 
 use outcomes::Refusal;
 use outcomes::refusals;

@@ -1,0 +1,24 @@
+// The search in a lent row of segments.
+use slices::Record;
+ghost use mathlib.Core.Path.{_≡_};
+ghost use Prim.Native.Nat.{ℕ, _<_, _≤_};
+ghost use lib.ListN.{length, getD};
+ghost use Rattle.seeking.specs.Seek.{halve, noSegment};
+
+// The number of the segment at which halving ends, among the first n.
+pub(crate) fn halve(row: &[Record], n: usize, position: u64) -> usize
+    requires { ⌜ (0 < n) × (n ≤ length (now row)) ⌝ }
+    ensures { λ r. ⌜ (r ≡ halve (λ (i : ℕ). getD (now (row .entry)) i noSegment .pos) position n 0 n) × (r < n) ⌝ }
+{
+    let mut low = 0;
+    let mut high = n;
+    while low + 1 < high {
+        let mid = low + (high - low) / 2;
+        if position < row[mid].pos as u64 {
+            high = mid;
+        } else {
+            low = mid;
+        }
+    }
+    low
+}
