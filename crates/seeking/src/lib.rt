@@ -8,7 +8,7 @@ use outcomes::refusals;
 use slices::RECORD;
 use slices::Record;
 ghost use mathlib.Core.Path.{_≡_};
-ghost use Rattle.seeking.specs.Seek.{seekView, sought};
+ghost use Rattle.seeking.specs.Seek.{seekRow, seekView, sought};
 
 // The segment that holds a position, with its number in the row.
 pub enum Found {
@@ -31,4 +31,16 @@ pub fn find_in(view: &[u8], segments: u64, position: u64) -> Sought
     }
     let n = half::fewer(segments, view.len() / RECORD);
     Sought::Looked(bytes::seek(view, n, position))
+}
+
+// The segment that holds a position, among the first `number` of a lent row.
+pub fn find(row: &[Record], number: usize, position: u64) -> Found
+    ensures { λ r. ⌜ r ≡ seekRow (now (row .entry)) number position ⌝ }
+{
+    let n = half::fewer(number as u64, row.len());
+    if n == 0 {
+        return Found::Nowhere;
+    }
+    let k = lent::halve(row, n, position);
+    half::if_held(position, k, row[k])
 }
