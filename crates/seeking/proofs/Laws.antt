@@ -6,3 +6,5 @@ pub mod Loaded
 pub mod LentRow
 pub mod InBytes
 pub mod Source
+pub mod Fill
+pub mod Load

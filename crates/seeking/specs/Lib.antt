@@ -1,2 +1,4 @@
 pub mod Seek
 pub mod Claims
+pub mod Load
+pub mod Inner

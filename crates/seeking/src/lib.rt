@@ -2,13 +2,16 @@
 mod bytes;
 mod half;
 mod lent;
+mod within;
 
 use outcomes::Refusal;
 use outcomes::refusals;
 use slices::RECORD;
 use slices::Record;
 ghost use mathlib.Core.Path.{_≡_};
+ghost use lib.ListN.{length};
 ghost use Rattle.seeking.specs.Seek.{seekRow, seekView, sought};
+ghost use Rattle.seeking.specs.Load.{loadOutcome, Loads};
 
 // The segment that holds a position, with its number in the row.
 pub enum Found {
@@ -43,4 +46,20 @@ pub fn find(row: &[Record], number: usize, position: u64) -> Found
     }
     let k = lent::halve(row, n, position);
     half::if_held(position, k, row[k])
+}
+
+// What loading a view answers: how many segments it has, or the refusal.
+pub enum Loaded {
+    Segments(usize),
+    Refused(Refusal),
+}
+
+// Loads a list's view into the front of a lent row; `bytes` is lent for the view's bytes.
+pub fn load(list: &[u8], chunk_len: u64, bytes: &mut [u8], row: &mut [Record]) -> Loaded
+    ensures { λ r. ⌜ Loads (loadOutcome (now (list .entry)) «chunk_len» (length (now (bytes .entry))) (length (now (row .entry)))) (now (bytes .entry)) (now (row .entry)) r (now (bytes .exit)) (now (row .exit)) ⌝ }
+{
+    let answer = within::view_within(list, chunk_len, row.len(), bytes);
+    let n = within::segments_in(answer);
+    lent::fill(bytes, n, row);
+    answer
 }
