@@ -8,3 +8,4 @@ pub mod InBytes
 pub mod Source
 pub mod Fill
 pub mod Load
+pub mod LoadFinds

@@ -1,4 +1,4 @@
-// The search in a lent row of segments.
+// A lent row of segments. What takes one is proved by a walk of its code, so there is little here; the rest is covered code over numbers and bytes.
 use slices::Record;
 use slices::records;
 ghost use mathlib.Core.Path.{_≡_};

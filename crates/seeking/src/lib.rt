@@ -1,4 +1,4 @@
-// Which segment of a view holds a position, found by halving.
+// Which segment of a view holds a position, found by halving: in the view's bytes, or in a lent row that it was loaded into.
 mod bytes;
 mod half;
 mod lent;
@@ -25,6 +25,12 @@ pub enum Sought {
     Refused(Refusal),
 }
 
+// What loading a view answers: how many segments it has, or the refusal.
+pub enum Loaded {
+    Segments(usize),
+    Refused(Refusal),
+}
+
 // The segment that holds a position, among the first `segments` of a view's bytes.
 pub fn find_in(view: &[u8], segments: u64, position: u64) -> Sought
     ensures { λ r. ⌜ r ≡ sought (seekView (now (view .entry)) segments position) ⌝ }
@@ -46,12 +52,6 @@ pub fn find(row: &[Record], number: usize, position: u64) -> Found
     }
     let k = lent::halve(row, n, position);
     half::if_held(position, k, row[k])
-}
-
-// What loading a view answers: how many segments it has, or the refusal.
-pub enum Loaded {
-    Segments(usize),
-    Refused(Refusal),
 }
 
 // Loads a list's view into the front of a lent row; `bytes` is lent for the view's bytes.
