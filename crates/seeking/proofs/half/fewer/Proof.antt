@@ -1,0 +1,13 @@
+-- `seeking::half::fewer` meets its contract. Assumes nothing.
+use native.Mathlib.Omega.{arith}
+use Rattle.seeking.proofs.half.fewer.Statement.{statement}
+use Rattle.seeking.proofs.half.fewer.Tie as tie
+
+returns : tie.Need-returns
+returns c = omega arith
+
+returns-2 : tie.Need-returns-2
+returns-2 c = omega arith
+
+pub fewer-spec : {M : Type 1} → statement M
+fewer-spec = tie.close (tie.spec returns returns-2)
