@@ -10,6 +10,7 @@
 mod answer;
 mod check;
 mod compaction;
+mod find;
 mod keys;
 pub mod limits;
 mod names;
@@ -24,6 +25,7 @@ mod view;
 pub use answer::{put, Answer};
 pub use check::{block_size, check, chunk_length, records};
 pub use compaction::{compact, compact_bytes, put_both, Compacted};
+pub use find::{find, Found};
 pub use keys::ChunkKey;
 pub use keys::{read_redis_key, read_tkv_key, redis_key, tkv_key, write_redis_key, write_tkv_key};
 pub use names::{full_name, object_name, read_full_name, read_object_name, volume_of};

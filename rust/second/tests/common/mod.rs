@@ -26,6 +26,12 @@ pub fn decoded(bytes: &[u8]) -> Vec<Record> {
     bytes.chunks(24).map(Record::from_bytes).collect()
 }
 
+/// The numbers of the segments that hold the position, told by looking at each.
+pub fn holders(row: &[Record], position: u64) -> Vec<u64> {
+    let holds = |record: &Record| (record.pos..record.pos + record.len).contains(&position);
+    (0..).zip(row).filter(|(_, record)| holds(record)).map(|(number, _)| number).collect()
+}
+
 pub fn no(number: u64) -> Refusal {
     Refusal { number, place: 0 }
 }
