@@ -5,7 +5,7 @@
  * Any bytes and any numbers may be passed. Each call ends with an answer or with one of
  * the refusals below. A refused call changes no byte of any buffer. A successful call
  * writes its answer at the front of the buffer and leaves the rest as it was. The library
- * keeps no pointer and has no state, and a call needs a stack of 64 KiB at most.
+ * keeps no pointer and has no state, and a call needs less than 96 KiB of stack.
  *
  * A pointer must be good for as many bytes as the length beside it; with length 0 it may
  * be NULL. Buffers to be written may overlap neither each other nor the inputs.
@@ -96,6 +96,19 @@ typedef struct ezk_answer {
     uint64_t count; /* bytes written, or records found */
 } ezk_answer;
 
+/* What ezk_find returns. */
+typedef struct ezk_found {
+    uint64_t refusal;
+    uint64_t place;
+    uint64_t found;   /* 1 if a segment holds the position, else 0 */
+    uint64_t segment; /* its number in the view, from 0 */
+    uint64_t pos;     /* from here on its five numbers, as in its record */
+    uint64_t id;
+    uint64_t size;
+    uint64_t off;
+    uint64_t len;
+} ezk_found;
+
 /* What compaction returns. */
 typedef struct ezk_compacted {
     uint64_t refusal;
@@ -132,7 +145,7 @@ ezk_answer ezk_check(const uint8_t *list, size_t list_len);
  * Writes the resolved view of positions 0 up to chunk_len: maximal runs, ascending, without
  * gaps, each as a record. Uncovered bytes have id 0, size = len, off 0; zeros have id 0,
  * size 0, off 0; slice bytes have their id and size and the first slice offset. A list of
- * n records has a view of at most 2n + 1 records.
+ * n records has a view of at most 2n + 1 records. ezk_find seeks in a view.
  *
  * A view may be passed as a list: it is accepted, or refused with 2, and reads alike up to
  * chunk_len. But its uncovered bytes have become zeros, and hide what they are laid over. A
@@ -142,6 +155,31 @@ ezk_answer ezk_check(const uint8_t *list, size_t list_len);
  */
 ezk_answer ezk_view(const uint8_t *list, size_t list_len, uint64_t chunk_len,
                     uint8_t *out, size_t out_len);
+
+/*
+ * Finds, by halving, the segment of a view that holds a position. A segment is a record of the
+ * view, and holds the positions pos up to, but without, pos + len. A view is written once and
+ * can be sought in often.
+ *
+ * view is what ezk_view wrote, and segments the number of its segments, ezk_view's count / 24.
+ * view_len is that count. Bytes behind the last of these segments are not looked at, so it may
+ * also be the length of the whole buffer, if this is a multiple of 24.
+ *
+ * found is 1 if a segment is found: segment is its number from 0, and pos, id, size, off and
+ * len are the numbers of its record, where id 0 means what it means in a view. With another id
+ * the byte at position is that at slice offset off + (position - pos). The next segment has the
+ * next number. If none is found, found and all other fields are 0.
+ *
+ * In the bytes of a view, with its number of segments, every position below chunk_len finds its
+ * segment, and every other position none. Any other bytes and numbers may be passed. A number
+ * above view_len / 24, such as a byte count passed on by mistake, asks too high, and is taken
+ * as all segments of view_len. A segment at or past the number is never found. In bytes that
+ * are no view the answer is none, or a segment that holds the position, never one that does not;
+ * pos + len is the sum of mathematics.
+ *
+ * The length that is no multiple of 24 in the refusal's words is view_len. Refusal: 1.
+ */
+ezk_found ezk_find(const uint8_t *view, size_t view_len, uint64_t segments, uint64_t position);
 
 /*
  * Writes the tidied list: the view of the whole chunk without its uncovered runs.

@@ -28,6 +28,17 @@ FIELD(ezk_answer, place, 1);
 FIELD(ezk_answer, count, 2);
 FIELDS(ezk_answer, 3);
 
+FIELD(ezk_found, refusal, 0);
+FIELD(ezk_found, place, 1);
+FIELD(ezk_found, found, 2);
+FIELD(ezk_found, segment, 3);
+FIELD(ezk_found, pos, 4);
+FIELD(ezk_found, id, 5);
+FIELD(ezk_found, size, 6);
+FIELD(ezk_found, off, 7);
+FIELD(ezk_found, len, 8);
+FIELDS(ezk_found, 9);
+
 FIELD(ezk_compacted, refusal, 0);
 FIELD(ezk_compacted, place, 1);
 FIELD(ezk_compacted, plan, 2);
@@ -91,6 +102,19 @@ static void answer(ezk_answer a, uint64_t *to)
     to[2] = a.count;
 }
 
+static void found(ezk_found a, uint64_t *to)
+{
+    to[0] = a.refusal;
+    to[1] = a.place;
+    to[2] = a.found;
+    to[3] = a.segment;
+    to[4] = a.pos;
+    to[5] = a.id;
+    to[6] = a.size;
+    to[7] = a.off;
+    to[8] = a.len;
+}
+
 static void compacted(ezk_compacted a, uint64_t *to)
 {
     to[0] = a.refusal;
@@ -128,6 +152,12 @@ void via_view(const uint8_t *list, size_t list_len, uint64_t chunk_len, uint8_t 
     ezk_answer a = ezk_view(list, list_len, chunk_len, out, out_len);
     SPOIL_VIEW
     answer(a, to);
+}
+
+void via_find(const uint8_t *view, size_t view_len, uint64_t segments, uint64_t position,
+              uint64_t *to)
+{
+    found(ezk_find(view, view_len, segments, position), to);
 }
 
 void via_tidy(const uint8_t *list, size_t list_len, uint8_t *out, size_t out_len, uint64_t *to)

@@ -1,7 +1,7 @@
 //! The two ways into the archive: through the Rust crate's declarations, and through C that
 //! was compiled from the header. Every call is made both ways.
 
-use ezumokarin::sys::{self, ezk_answer, ezk_chunk_key, ezk_compacted, ezk_object};
+use ezumokarin::sys::{self, ezk_answer, ezk_chunk_key, ezk_compacted, ezk_found, ezk_object};
 
 use crate::header;
 
@@ -11,6 +11,7 @@ pub struct Binding {
     pub name: &'static str,
     pub check: fn(&[u8]) -> ezk_answer,
     pub view: fn(&[u8], u64, &mut [u8]) -> ezk_answer,
+    pub find: fn(&[u8], u64, u64) -> ezk_found,
     pub tidy: fn(&[u8], &mut [u8]) -> ezk_answer,
     pub read_plan: fn(&[u8], u64, u64, u64, u64, &mut [u8]) -> ezk_answer,
     pub compact: fn(&[u8], u64, u64, u64, &mut [u8], &mut [u8]) -> ezk_compacted,
@@ -28,6 +29,7 @@ const RUST: Binding = Binding {
     name: "Rust crate",
     check: sys::check,
     view: sys::view,
+    find: sys::find,
     tidy: sys::tidy,
     read_plan: sys::read_plan,
     compact: sys::compact,

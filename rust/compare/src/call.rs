@@ -26,6 +26,7 @@ impl Room {
 pub enum Call {
     Check { list: Vec<u8> },
     View { list: Vec<u8>, chunk_len: u64, out: Room },
+    Find { view: Vec<u8>, segments: u64, position: u64 },
     Tidy { list: Vec<u8>, out: Room },
     ReadPlan { list: Vec<u8>, chunk_len: u64, block_size: u64, start: u64, count: u64, out: Room },
     Compact { list: Vec<u8>, block_size: u64, k: u64, new_id: u64, plan: Room, new_list: Room },
@@ -56,6 +57,7 @@ impl Call {
         match self {
             Call::Check { .. } => "check",
             Call::View { .. } => "view",
+            Call::Find { .. } => "find",
             Call::Tidy { .. } => "tidy",
             Call::ReadPlan { .. } => "read_plan",
             Call::Compact { .. } => "compact",

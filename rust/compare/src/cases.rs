@@ -1,6 +1,8 @@
 //! The calls that the papers speak of, and limits from both sides. Their values are tested
 //! in the second program.
 
+mod seeking;
+
 use second::limits::{CHUNK, LIST_RECORDS, RECORD};
 use second::Record;
 
@@ -18,6 +20,7 @@ pub fn all() -> Vec<Call> {
         list_of_000(),
         tidied_to_the_limit(),
         fed_back(),
+        seeking::all(),
         names(),
         keys(),
     ]

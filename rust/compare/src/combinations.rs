@@ -3,6 +3,7 @@
 
 mod faulty;
 mod forms;
+mod seeking;
 
 use second::limits::{CHUNK, RECORD};
 
@@ -52,6 +53,7 @@ pub fn run(tally: &mut Tally) {
         compact(tally, variant);
     }
     forms::run(tally);
+    seeking::run(tally);
 }
 
 /// Compares the call and tests that the second program keeps the order too.

@@ -1,14 +1,27 @@
 //! Answers of the second program as the C interface gives them, each with its refusal's
 //! number in front, 0 for none.
 
-use ezumokarin::sys::{ezk_answer, ezk_chunk_key, ezk_compacted, ezk_object};
-use second::{Answer, ChunkKey, Compacted, ObjectName, Refusal};
+use ezumokarin::sys::{ezk_answer, ezk_chunk_key, ezk_compacted, ezk_found, ezk_object};
+use second::{Answer, ChunkKey, Compacted, Found, ObjectName, Record, Refusal};
 
 pub fn answered(answer: Answer) -> (u64, ezk_answer) {
     match answer {
         Ok(count) => (0, ezk_answer { count: count as u64, ..Default::default() }),
         Err(Refusal { number, place }) => {
             (number, ezk_answer { refusal: number, place, ..Default::default() })
+        }
+    }
+}
+
+pub fn found(answer: Result<Option<Found>, Refusal>) -> (u64, ezk_found) {
+    match answer {
+        Ok(None) => (0, ezk_found::default()),
+        Ok(Some(Found { segment, record: Record { pos, id, size, off, len } })) => {
+            let found = 1;
+            (0, ezk_found { found, segment, pos, id, size, off, len, ..Default::default() })
+        }
+        Err(Refusal { number, place }) => {
+            (number, ezk_found { refusal: number, place, ..Default::default() })
         }
     }
 }

@@ -1,7 +1,7 @@
 //! Every call through C that was compiled from `include/ezumokarin.h` (`header.c`), which
 //! hands the fields over in a row of numbers.
 
-use ezumokarin::sys::{ezk_answer, ezk_chunk_key, ezk_compacted, ezk_object};
+use ezumokarin::sys::{ezk_answer, ezk_chunk_key, ezk_compacted, ezk_found, ezk_object};
 
 use crate::binding::Binding;
 
@@ -9,6 +9,7 @@ pub const BINDING: Binding = Binding {
     name: "C header",
     check,
     view,
+    find,
     tidy,
     read_plan,
     compact,
@@ -29,6 +30,7 @@ type To = *mut u64;
 extern "C" {
     fn via_check(list: In, len: usize, to: To);
     fn via_view(list: In, len: usize, chunk_len: u64, out: Out, out_len: usize, to: To);
+    fn via_find(view: In, len: usize, segments: u64, position: u64, to: To);
     fn via_tidy(list: In, len: usize, out: Out, out_len: usize, to: To);
     fn via_read_plan(
         list: In,
@@ -84,6 +86,11 @@ fn answer([refusal, place, count]: [u64; 3]) -> ezk_answer {
     ezk_answer { refusal, place, count }
 }
 
+fn found(row: [u64; 9]) -> ezk_found {
+    let [refusal, place, found, segment, pos, id, size, off, len] = row;
+    ezk_found { refusal, place, found, segment, pos, id, size, off, len }
+}
+
 fn object([refusal, place, id, block, length, volume]: [u64; 6]) -> ezk_object {
     ezk_object { refusal, place, id, block, length, volume }
 }
@@ -99,6 +106,10 @@ fn check(list: &[u8]) -> ezk_answer {
 fn view(list: &[u8], chunk_len: u64, out: &mut [u8]) -> ezk_answer {
     let (out, out_len) = (out.as_mut_ptr(), out.len());
     answer(filled(|to| unsafe { via_view(list.as_ptr(), list.len(), chunk_len, out, out_len, to) }))
+}
+
+fn find(view: &[u8], segments: u64, position: u64) -> ezk_found {
+    found(filled(|to| unsafe { via_find(view.as_ptr(), view.len(), segments, position, to) }))
 }
 
 fn tidy(list: &[u8], out: &mut [u8]) -> ezk_answer {

@@ -22,6 +22,7 @@ mod random;
 mod run;
 mod tally;
 mod texts;
+mod views;
 
 use std::process::exit;
 

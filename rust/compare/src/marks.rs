@@ -1,4 +1,7 @@
-//! Kinds of lists that random calls must have met, each counted in a table of its own.
+//! Kinds of lists, and of seeking, that random calls must have met, each counted in a table of its
+//! own.
+
+mod seeking;
 
 use std::collections::HashSet;
 
@@ -30,8 +33,9 @@ const MARKS: [Mark; 9] = [
     Mark { name: "random, empty of other size", is: empty_of_other_size, met: 16 },
 ];
 
-/// Counts a call that gave this refusal under every mark that its list has.
+/// Counts a call that gave this refusal under every mark that it or its list has.
 pub fn count(tally: &mut Tally, call: &Call, refusal: u64) {
+    seeking::count(tally, call);
     let Some(list) = call.list() else {
         return;
     };
@@ -45,7 +49,9 @@ pub fn count(tally: &mut Tally, call: &Call, refusal: u64) {
 pub fn missed(tally: &Tally) -> Vec<String> {
     let pairs = MARKS.iter().flat_map(|mark| CALLS.map(|call| (mark, call)));
     let missed = pairs.filter(|(mark, call)| tally.counted(mark.name, call, mark.met) == 0);
-    missed.map(|(mark, call)| format!("no {call} of {} gives {}", mark.name, mark.met)).collect()
+    let said =
+        |(mark, call): (&Mark, &str)| format!("no {call} of {} gives {}", mark.name, mark.met);
+    missed.map(said).chain(seeking::missed(tally)).collect()
 }
 
 fn sized_zeros(record: &Record) -> bool {

@@ -1,4 +1,4 @@
-//! Small changes that spoil a sound list or a sound text.
+//! Small changes that spoil a sound list, a view or a sound text.
 
 use second::limits::{CHUNK, RECORD};
 use second::Record;
@@ -23,6 +23,45 @@ pub fn list(rng: &mut Rng, list: &mut Vec<u8>) {
         6 => repeated(rng, list),
         _ => {}
     }
+}
+
+/// Spoils a view in one way, or leaves it as it is: most views stay.
+pub fn view(rng: &mut Rng, view: &mut Vec<u8>) {
+    match rng.below(16) {
+        0 => one_record(rng, view, field),
+        1 => one_record(rng, view, past_32_bits),
+        2 => byte(rng, view),
+        3 => view.truncate(rng.below(view.len() as u64 + 1) as usize),
+        4 => cut(rng, view),
+        5 => exchanged(rng, view),
+        6 => list(rng, view),
+        _ => {}
+    }
+}
+
+/// Drops some whole records at the front or at the end.
+fn cut(rng: &mut Rng, view: &mut Vec<u8>) {
+    let dropped = rng.below((view.len() / RECORD) as u64 + 1) as usize * RECORD;
+    if rng.once_in(2) {
+        view.drain(..dropped);
+    } else {
+        view.truncate(view.len() - dropped);
+    }
+}
+
+/// Exchanges two whole records, if there are any.
+fn exchanged(rng: &mut Rng, view: &mut [u8]) {
+    let records = (view.len() / RECORD) as u64;
+    if records > 0 {
+        let (a, b) = (rng.below(records) as usize, rng.below(records) as usize);
+        (0..RECORD).for_each(|i| view.swap(a * RECORD + i, b * RECORD + i));
+    }
+}
+
+/// Gives a record a length with which it ends past 2^32.
+fn past_32_bits(rng: &mut Rng, record: &mut [u8]) {
+    let len = u32::MAX - rng.below(3) as u32;
+    record[20..24].copy_from_slice(&len.to_be_bytes());
 }
 
 /// Changes one of the whole records, if there is any.

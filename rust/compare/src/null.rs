@@ -6,7 +6,7 @@ use std::ptr::{null, null_mut};
 
 use ezumokarin::sys::*;
 
-use crate::expected::{answered, chunk_key, compacted, object};
+use crate::expected::{answered, chunk_key, compacted, found, object};
 use crate::tally::Tally;
 
 const BLOCK: u64 = 65_536;
@@ -23,6 +23,10 @@ pub fn run(tally: &mut Tally) {
             let got = ezk_read_plan(nil, 0, chunk_len, BLOCK, 0, 9, out, 0);
             let want = second::read_plan(&[], chunk_len, BLOCK, 0, 9, &mut []);
             same(tally, "read_plan", got, answered(want));
+        }
+        for segments in [0, 1, u64::MAX] {
+            let want = found(second::find(&[], segments, 0));
+            same(tally, "find", ezk_find(nil, 0, segments, 0), want);
         }
         same(tally, "tidy", ezk_tidy(nil, 0, out, 0), answered(second::tidy(&[], &mut [])));
         let got = ezk_compact(nil, 0, BLOCK, 0, 1, out, 0, out, 0);

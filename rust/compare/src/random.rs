@@ -2,7 +2,7 @@
 
 use crate::call::{Call, Room};
 use crate::tally::Tally;
-use crate::{lists, marks, mutate, numbers, texts};
+use crate::{lists, marks, mutate, numbers, texts, views};
 use rng::Rng;
 
 const ORIGIN: &str = "random";
@@ -17,8 +17,8 @@ pub fn run(tally: &mut Tally, seed: u64, calls: u64) {
     }
 }
 
-/// Random calls must meet every refusal that the chosen calls do, and every kind of list that
-/// is marked; else they are too tame.
+/// Random calls must meet every refusal that the chosen calls do, and every kind of list and of
+/// seeking that is marked; else they are too tame.
 pub fn reach(tally: &mut Tally) {
     for missed in marks::missed(tally) {
         tally.difference("random calls", &missed);
@@ -29,11 +29,17 @@ pub fn reach(tally: &mut Tally) {
 }
 
 fn any_call(rng: &mut Rng) -> Call {
-    if rng.below(3) < 2 {
-        with_list(rng)
-    } else {
-        with_text(rng)
+    match rng.below(12) {
+        0..=7 => with_list(rng),
+        8 => in_view(rng),
+        _ => with_text(rng),
     }
+}
+
+fn in_view(rng: &mut Rng) -> Call {
+    let view = views::row(rng);
+    let (segments, position) = (views::segments(rng, &view), views::position(rng, &view));
+    Call::Find { view, segments, position }
 }
 
 fn with_list(rng: &mut Rng) -> Call {

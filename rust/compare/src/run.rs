@@ -7,7 +7,7 @@ use second::Refusal;
 
 use crate::binding::Binding;
 use crate::call::{Call, Room};
-use crate::expected::{answered, chunk_key, compacted, object};
+use crate::expected::{answered, chunk_key, compacted, found, object};
 use crate::lent::Lent;
 
 /// Room that is lent where there will be no answer to fill it.
@@ -29,6 +29,12 @@ pub fn run(binding: &Binding, call: &Call, shift: usize) -> Seen {
             let want = second::view_bytes(list, *chunk_len);
             writing(list, want, *out, shift, |list, out| (binding.view)(list, *chunk_len, out))
         }
+        Call::Find { view, segments, position } => reading(
+            view,
+            shift,
+            |view| (binding.find)(view, *segments, *position),
+            |view| found(second::find(view, *segments, *position)),
+        ),
         Call::Tidy { list, out } => {
             writing(list, second::tidy_bytes(list), *out, shift, binding.tidy)
         }

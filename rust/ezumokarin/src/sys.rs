@@ -17,6 +17,30 @@ pub struct ezk_answer {
     pub count: u64,
 }
 
+/// What `ezk_find` returns.
+#[repr(C)]
+#[derive(Clone, Copy, Debug, Default, PartialEq, Eq)]
+pub struct ezk_found {
+    /// 0 or 1.
+    pub refusal: u64,
+    /// Always 0.
+    pub place: u64,
+    /// 1 if a segment holds the position, else 0.
+    pub found: u64,
+    /// Its number in the view, from 0.
+    pub segment: u64,
+    /// Its position in the chunk.
+    pub pos: u64,
+    /// Its slice.
+    pub id: u64,
+    /// Size of the whole slice.
+    pub size: u64,
+    /// Offset of its first byte in the slice.
+    pub off: u64,
+    /// How many bytes it has.
+    pub len: u64,
+}
+
 /// What compaction returns.
 #[repr(C)]
 #[derive(Clone, Copy, Debug, Default, PartialEq, Eq)]
@@ -84,6 +108,7 @@ macro_rules! fields {
 }
 
 fields!(ezk_answer: refusal, place, count);
+fields!(ezk_found: refusal, place, found, segment, pos, id, size, off, len);
 fields!(ezk_compacted: refusal, place, plan, list);
 fields!(ezk_object: refusal, place, id, block, length, volume);
 fields!(ezk_chunk_key: refusal, place, inode, index);
@@ -98,6 +123,7 @@ extern "C" {
         out: *mut u8,
         out_len: usize,
     ) -> ezk_answer;
+    pub fn ezk_find(view: *const u8, view_len: usize, segments: u64, position: u64) -> ezk_found;
     pub fn ezk_tidy(list: *const u8, list_len: usize, out: *mut u8, out_len: usize) -> ezk_answer;
     pub fn ezk_read_plan(
         list: *const u8,
@@ -152,6 +178,11 @@ pub fn check(list: &[u8]) -> ezk_answer {
 /// `ezk_view`
 pub fn view(list: &[u8], chunk_len: u64, out: &mut [u8]) -> ezk_answer {
     unsafe { ezk_view(list.as_ptr(), list.len(), chunk_len, out.as_mut_ptr(), out.len()) }
+}
+
+/// `ezk_find`
+pub fn find(view: &[u8], segments: u64, position: u64) -> ezk_found {
+    unsafe { ezk_find(view.as_ptr(), view.len(), segments, position) }
 }
 
 /// `ezk_tidy`

@@ -1,7 +1,7 @@
 //! The answers of `second` as the structs of the C interface.
 #![allow(non_camel_case_types)]
 
-use second::{Answer, ChunkKey, Compacted, ObjectName, Refusal};
+use second::{Answer, ChunkKey, Compacted, Found, ObjectName, Record, Refusal};
 
 #[repr(C)]
 #[derive(Default)]
@@ -9,6 +9,20 @@ pub struct ezk_answer {
     refusal: u64,
     place: u64,
     count: u64,
+}
+
+#[repr(C)]
+#[derive(Default)]
+pub struct ezk_found {
+    refusal: u64,
+    place: u64,
+    found: u64,
+    segment: u64,
+    pos: u64,
+    id: u64,
+    size: u64,
+    off: u64,
+    len: u64,
 }
 
 #[repr(C)]
@@ -44,6 +58,18 @@ pub fn answered(answer: Answer) -> ezk_answer {
     match answer {
         Ok(count) => ezk_answer { count: count as u64, ..ezk_answer::default() },
         Err(Refusal { number, place }) => ezk_answer { refusal: number, place, count: 0 },
+    }
+}
+
+pub fn found(answer: Result<Option<Found>, Refusal>) -> ezk_found {
+    match answer {
+        Ok(None) => ezk_found::default(),
+        Ok(Some(Found { segment, record: Record { pos, id, size, off, len } })) => {
+            ezk_found { found: 1, segment, pos, id, size, off, len, ..ezk_found::default() }
+        }
+        Err(Refusal { number, place }) => {
+            ezk_found { refusal: number, place, ..ezk_found::default() }
+        }
     }
 }
 

@@ -3,8 +3,8 @@
 mod answers;
 mod lent;
 
-use answers::{answered, compacted, key, object};
-use answers::{ezk_answer, ezk_chunk_key, ezk_compacted, ezk_object};
+use answers::{answered, compacted, found, key, object};
+use answers::{ezk_answer, ezk_chunk_key, ezk_compacted, ezk_found, ezk_object};
 use lent::{bytes, room};
 
 /// # Safety
@@ -25,6 +25,18 @@ pub unsafe extern "C" fn ezk_view(
     out_len: usize,
 ) -> ezk_answer {
     answered(second::view(bytes(list, list_len), chunk_len, room(out, out_len)))
+}
+
+/// # Safety
+/// As for [`ezk_check`].
+#[no_mangle]
+pub unsafe extern "C" fn ezk_find(
+    view: *const u8,
+    view_len: usize,
+    segments: u64,
+    position: u64,
+) -> ezk_found {
+    found(second::find(bytes(view, view_len), segments, position))
 }
 
 /// # Safety
