@@ -2,7 +2,7 @@
 //! JuiceFS volume and makes read plans, compaction plans, object names and chunk keys.
 //!
 //! Any bytes and any numbers may be passed. Each call ends with an answer or with a
-//! [`Refusal`]; a refused call changes no byte of a buffer.
+//! [`Refusal`]; a refused call changes no byte of a buffer. A call needs less than 96 KiB of stack.
 //!
 //! ```
 //! use ezumokarin::{records, view, Record, CHUNK};
@@ -24,6 +24,7 @@
 #![deny(unsafe_code)]
 #![warn(missing_docs)]
 
+mod find;
 mod keys;
 mod lists;
 mod names;
@@ -33,6 +34,7 @@ mod refusal;
 #[allow(unsafe_code)]
 pub mod sys;
 
+pub use find::{find, Found};
 pub use keys::{read_redis_key, read_tkv_key, write_redis_key, write_tkv_key, ChunkKey};
 pub use lists::{check, compact, read_plan, tidy, view, Compacted};
 pub use names::{read_full_name, read_object_name, FullName, ObjectName};

@@ -34,8 +34,8 @@ pub fn check(list: &[u8]) -> Result<usize, Refusal> {
 }
 
 /// Writes the resolved view of the chunk's first `chunk_len` bytes and returns its length
-/// in bytes. A list of n records needs at most 2n + 1 records of room.
-/// Refusals: 7, 1 to 6, 16, 12.
+/// in bytes. A list of n records needs at most 2n + 1 records of room. [`find`](crate::find())
+/// seeks in a view. Refusals: 7, 1 to 6, 16, 12.
 ///
 /// ```
 /// let mut out = [0; 24];
