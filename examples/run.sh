@@ -39,6 +39,20 @@ new list reads 0 180 183 112 0 65 76 66 89 120 0
 both read the same bytes
 TEXT
 
+# By hand, from the requirements. Of slice 7, at 0, eight bytes are hidden by zeros from 4 on; it ends at 20, and the chunk at 24. So the view has four segments:
+# from 0 and from 12 slice 7 at its own offsets, from 4 zeros, from 20 nothing.
+cat > "$work/seek.expected" <<'TEXT'
+0: segment 0, slice 7 at 0
+3: segment 0, slice 7 at 3
+4: segment 1, zeros
+11: segment 1, zeros
+12: segment 2, slice 7 at 12
+19: segment 2, slice 7 at 19
+20: segment 3, uncovered
+23: segment 3, uncovered
+24: none
+TEXT
+
 # The lines that the page shows, by hand from the requirements.
 sed -n 's/^    //p' "$here/../docs/VIEW-AGAIN.md" > "$work/again.expected"
 
