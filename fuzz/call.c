@@ -19,6 +19,7 @@ static const struct {
 } kinds[KINDS] = {
     [CHECK] = {"check", 0, LIST},
     [VIEW] = {"view", 1, BIT(7) | LIST | BIT(12)},
+    [FIND] = {"find", 0, BIT(1)},
     [TIDY] = {"tidy", 1, LIST | BIT(11) | BIT(12)},
     [READ_PLAN] = {"read_plan", 1, BIT(7) | BIT(8) | LIST | BIT(12)},
     [COMPACT] = {"compact", 2, BIT(8) | LIST | BIT(10) | BIT(9) | BIT(12)},
@@ -64,6 +65,13 @@ static answer answered(ezk_answer a)
     return (answer){.refusal = a.refusal, .place = a.place, .value = {a.count}};
 }
 
+static answer sought(ezk_found a)
+{
+    return (answer){.refusal = a.refusal,
+                    .place = a.place,
+                    .value = {a.found, a.segment, a.pos, a.id, a.size, a.off, a.len}};
+}
+
 static answer compacted(ezk_compacted a)
 {
     return (answer){.refusal = a.refusal, .place = a.place, .value = {a.plan, a.list}};
@@ -89,6 +97,8 @@ static answer pass(enum kind kind, const uint64_t n[4], const lent *in, const le
         return answered(ezk_check(in->bytes, in->len));
     case VIEW:
         return answered(ezk_view(in->bytes, in->len, n[0], to, room));
+    case FIND:
+        return sought(ezk_find(in->bytes, in->len, n[0], n[1]));
     case TIDY:
         return answered(ezk_tidy(in->bytes, in->len, to, room));
     case READ_PLAN:
@@ -123,9 +133,8 @@ static void check_refusal(const call *call, const answer *a)
     must(call, refusal < REFUSALS, "the refusal has no such number");
     must(call, !refusal || kinds[call->kind].refusals & BIT(refusal),
          "the call has no such refusal");
-    if (refusal)
-        must(call, !a->value[0] && !a->value[1] && !a->value[2] && !a->value[3],
-             "a refused call gives values");
+    for (int i = 0; i < VALUES; i++)
+        must(call, !refusal || !a->value[i], "a refused call gives values");
     uint64_t place = 0;
     uint64_t expected = expected_refusal(call, &place);
     must(call, a->place == place, "another place than expected");

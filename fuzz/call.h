@@ -11,6 +11,7 @@
 enum kind {
     CHECK,
     VIEW,
+    FIND,
     TIDY,
     READ_PLAN,
     COMPACT,
@@ -30,7 +31,7 @@ enum { REFUSALS = 17 }; /* with 0 for an answer; 14 and 15 are none */
 /* The most records of a list, and of a tidied list. */
 enum { LIST_RECORDS = 2048, TIDIED_RECORDS = 2048 };
 
-/* Numbers in the order in which the call takes them; bytes are its list, volume or text. */
+/* Numbers in the order in which the call takes them; bytes are its list, view, volume or text. */
 typedef struct call {
     enum kind kind;
     uint64_t number[4];
@@ -40,9 +41,12 @@ typedef struct call {
     uint8_t salt;
 } call;
 
-/* value: count; or plan and list; or id, block, length, volume; or inode, index. */
+enum { VALUES = 7 };
+
+/* value: count; or found, segment and its five numbers; or plan and list; or id, block, length,
+ * volume; or inode, index. */
 typedef struct answer {
-    uint64_t refusal, place, value[4];
+    uint64_t refusal, place, value[VALUES];
     uint8_t *written[2]; /* copies of what was written, malloc'ed exactly */
 } answer;
 

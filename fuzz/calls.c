@@ -54,7 +54,7 @@ int LLVMFuzzerInitialize(int *argc, char ***argv)
 
 int LLVMFuzzerTestOneInput(const uint8_t *data, size_t size)
 {
-    static uint8_t bytes[LIST_MAX];
+    static uint8_t bytes[VIEW_MAX];
     uint8_t head[BYTES] = {0};
     memcpy(head, data, size < BYTES ? size : BYTES);
     size_t len = size < BYTES ? 0 : size - BYTES;

@@ -22,6 +22,8 @@ void keep_laws(const call *call, const answer *a)
         return check_law(call, a);
     case VIEW:
         return view_law(call, a);
+    case FIND:
+        return find_law(call, a);
     case TIDY:
         return tidy_law(call, a);
     case READ_PLAN:

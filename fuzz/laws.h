@@ -6,10 +6,14 @@
 
 void check_law(const call *call, const answer *a);
 void view_law(const call *call, const answer *a);
+void find_law(const call *call, const answer *a);
 void tidy_law(const call *call, const answer *a);
 void plan_law(const call *call, const answer *a);
 void compact_law(const call *call, const answer *a);
 void text_law(const call *call, const answer *a);
+
+/* Seeks at some positions of a view, of any length of the chunk. */
+void seek_in(const call *viewing, const answer *view);
 
 /* Another call, with memory lent in the same way; its numbers are 0. */
 call other(const call *call, enum kind kind, const uint8_t *bytes, size_t len);

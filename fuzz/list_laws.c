@@ -53,6 +53,7 @@ void view_law(const call *call, const answer *a)
     }
     must(call, pos == call->number[0], "the runs do not end with the chunk");
     again_law(call, a);
+    seek_in(call, a);
 
     struct call tidying = other(call, TIDY, call->bytes, call->len);
     answer tidied = make_ample(&tidying);

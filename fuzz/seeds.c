@@ -43,6 +43,7 @@ static void list_seeds(unsigned shape, const uint8_t *list, size_t len)
 {
     seed(CHECK, shape, WITH(0), list, len);
     seed(VIEW, shape, WITH(EZK_CHUNK), list, len);
+    seed(FIND, shape, WITH(8 * 3, 5, 20, 3), list, len);
     seed(TIDY, shape, WITH(0), list, len);
     seed(READ_PLAN, shape, WITH(EZK_CHUNK, BLOCK, 0, EZK_CHUNK), list, len);
     seed(COMPACT, shape, WITH(BLOCK, 1, 1000), list, len);
@@ -120,6 +121,27 @@ static void small_lists(void)
         seed(COMPACT, AS_IS, WITH(65536, k, UINT64_MAX), list, len);
 }
 
+/* As they are: a view, a row that is none, and one whose last segment ends past 2^32. */
+static void views(void)
+{
+    const record view[] = {{0, 7, 20, 0, 4}, {4, 0, 0, 0, 8}, {12, 7, 20, 12, 8}};
+    const record unsorted[] = {{20, 7, 9, 0, 5}, {0, 7, 9, 0, 5}, {10, 7, 9, 0, 5}};
+    const record high[] = {{0, 7, 9, 0, UINT32_MAX}, {UINT32_MAX, 7, 9, 0, UINT32_MAX}};
+    const uint64_t numbers[] = {0, 1, 2, 3, 4, sizeof view / sizeof *view * EZK_RECORD, UINT64_MAX};
+    const uint64_t positions[] = {0, 3, 4, 11, 12, 19, 20, UINT32_MAX, 1ull << 32, UINT64_MAX};
+    uint8_t row[3 * EZK_RECORD];
+    for (size_t i = 0; i < sizeof numbers / sizeof *numbers; i++)
+        seed(FIND, AS_IS, WITH(numbers[i], 12), row, list_of(row, view, 3));
+    for (size_t i = 0; i < sizeof positions / sizeof *positions; i++) {
+        seed(FIND, AS_IS, WITH(3, positions[i]), row, list_of(row, view, 3));
+        seed(FIND, AS_IS, WITH(3, positions[i]), row, list_of(row, unsorted, 3));
+        seed(FIND, AS_IS, WITH(2, positions[i]), row, list_of(row, high, 2));
+    }
+    for (uint64_t spoiled = 0; spoiled < 16; spoiled++)
+        seed(FIND, SMALL, WITH(8 * 2 + 1, 5, 20, spoiled), row, list_of(row, view, 3));
+    seed(FIND, AS_IS, WITH(3, 0), row, sizeof row - 1); /* 1 */
+}
+
 /* A slice under zeros at every second byte: as many runs as the slice has bytes. */
 static void combs(void)
 {
@@ -190,6 +212,7 @@ int main(int argc, char **argv)
     lengths();
     single_records();
     small_lists();
+    views();
     combs();
     names();
     keys();

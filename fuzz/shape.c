@@ -63,6 +63,10 @@ static void shape_numbers(call *call, enum shape shape)
     case VIEW:
         n[0] %= end + 2;
         return;
+    case FIND:
+        n[0] = n[0] % 8 ? n[0] / 8 % (call->len / EZK_RECORD + 2) : call->len;
+        n[1] %= end + 2;
+        return;
     case READ_PLAN:
         n[0] %= end + 2;
         n[1] = block_size(n[1]);
@@ -86,6 +90,48 @@ static void shape_numbers(call *call, enum shape shape)
     default:
         return;
     }
+}
+
+/* One byte changed, some cut off, or two records exchanged; or nothing. */
+static void spoil_view(call *call, uint8_t *bytes, uint64_t choice)
+{
+    uint8_t kept[EZK_RECORD], *one = bytes, *other = bytes;
+    size_t len = call->len, records = len / EZK_RECORD;
+    uint64_t which = choice / 4;
+    if (!records)
+        return;
+    switch (choice % 4) {
+    case 0:
+        bytes[which % len] = (uint8_t)(choice >> 56);
+        return;
+    case 1:
+        call->len -= which % 2 ? which % (len + 1) : which % (records + 1) * EZK_RECORD;
+        return;
+    case 2:
+        one += which % records * EZK_RECORD;
+        other += which / records % records * EZK_RECORD;
+        memcpy(kept, one, EZK_RECORD);
+        memmove(one, other, EZK_RECORD);
+        memcpy(other, kept, EZK_RECORD);
+        return;
+    default:
+        return;
+    }
+}
+
+/* The view of the list, spoiled as the last number says; the list itself where it has none. */
+static void shape_view(call *call, uint8_t *bytes, enum shape shape)
+{
+    struct call viewing = {.kind = VIEW, .bytes = bytes, .len = call->len};
+    viewing.number[0] = call->number[2];
+    shape_numbers(&viewing, shape);
+    answer view = make_ample(&viewing);
+    if (!view.refusal) {
+        call->len = view.value[0];
+        memcpy(bytes, view.written[0], call->len);
+    }
+    done_with(&view);
+    spoil_view(call, bytes, call->number[3]);
 }
 
 /* What the writer makes of the numbers, then the given bytes in pairs: a place and a byte. */
@@ -123,10 +169,13 @@ void give_shape(call *call, uint8_t *bytes, uint8_t choice)
         return spoil_text(call, bytes, WRITE_TKV_KEY, shape);
     case CHECK:
     case VIEW:
+    case FIND:
     case TIDY:
     case READ_PLAN:
     case COMPACT:
         shape_list(call, bytes, shape, choice / SHAPES * RECORDS_MAX / (255 / SHAPES));
+        if (call->kind == FIND)
+            shape_view(call, bytes, shape);
         break;
     default:
         break;

@@ -6,7 +6,10 @@
 /* The most records of a list that is made, a few more than are allowed, and their bytes. */
 enum { RECORDS_MAX = LIST_RECORDS + 6, LIST_MAX = RECORDS_MAX * EZK_RECORD };
 
-/* Gives the call the shape that the choice stands for. `bytes`, of LIST_MAX, are its bytes. */
+/* The bytes of the longest view. */
+enum { VIEW_MAX = (2 * LIST_RECORDS + 1) * EZK_RECORD };
+
+/* Gives the call the shape that the choice stands for. `bytes`, of VIEW_MAX, are its bytes. */
 void give_shape(call *call, uint8_t *bytes, uint8_t choice);
 
 #endif
