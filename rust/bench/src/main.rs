@@ -1,48 +1,40 @@
-//! `bench [table.md [picture.svg]]`: times of the archive beside two plain Rust programs.
+//! `bench [FOLDER]`: times of the archive beside plain Rust, and beside another archive that was
+//! built before, where one is linked. The tables and the picture are written into the folder.
 //!
-//! The walk is the archive's own algorithm, quadratic, in safe Rust. The tree is the cut
-//! tree with which the stock client resolves a list. All three must give the same bytes,
-//! else the exit status is 1. Each time is the median of several rounds, and the three
-//! take turns within a round, so that ratios hold on a busy machine too.
+//! All programs must give the same bytes, else the exit status is 1. Each time is the median of
+//! many rounds in which the programs take turns, so that ratios hold on a busy machine too.
 
 mod clock;
-mod lists;
+mod library;
 mod measure;
-mod picture;
-mod plans;
+mod orders;
 mod record;
-mod table;
+mod report;
+mod shapes;
 #[cfg(test)]
 mod tests;
-mod texts;
 mod timed;
-mod tree;
-mod walk;
+mod yard;
 
+use std::path::Path;
 use std::process::exit;
 
 fn main() {
-    let paths: Vec<String> = std::env::args().skip(1).collect();
-    let rows = match timed::all() {
-        Ok(rows) => rows,
-        Err(difference) => {
-            eprintln!("{difference}");
-            exit(1);
+    let folder = std::env::args().nth(1);
+    let rows = timed::all().unwrap_or_else(|difference| fail(1, &difference));
+    for (name, text) in report::files(&rows) {
+        if name.ends_with(".md") {
+            println!("{text}");
         }
-    };
-    let table = table::markdown(&rows);
-    print!("{table}");
-    if let Some(path) = paths.first() {
-        write(path, &table);
-    }
-    if let Some(path) = paths.get(1) {
-        write(path, &picture::svg(&rows));
+        if let Some(folder) = &folder {
+            let path = Path::new(folder).join(name);
+            std::fs::write(&path, text)
+                .unwrap_or_else(|error| fail(2, &format!("{}: {error}", path.display())));
+        }
     }
 }
 
-fn write(path: &str, text: &str) {
-    if let Err(error) = std::fs::write(path, text) {
-        eprintln!("{path}: {error}");
-        exit(2);
-    }
+fn fail(status: i32, what: &str) -> ! {
+    eprintln!("{what}");
+    exit(status);
 }

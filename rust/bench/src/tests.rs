@@ -1,16 +1,22 @@
-//! Both programs that the archive is timed against must be right themselves.
+//! The programs that the archive is timed against must be right themselves.
 
 use rng::Rng;
 
-use crate::plans::{compact, read_plan};
-use crate::record::{checked, Record, CHUNK, RECORD};
-use crate::{texts, tree, walk};
+use crate::library::find;
+use crate::record::{Record, CHUNK, LIST_RECORDS, PIECE, RECORD};
+use crate::shapes::SHAPES;
+use crate::yard::check::{checked, passed};
+use crate::yard::compact::{compact, Order};
+use crate::yard::plan::read_plan;
+use crate::yard::view::{tidy, view};
+use crate::yard::{most_pieces, plain, seek, texts, tree, walk, Room};
 
-const BLOCK_SIZE: u32 = 65_536;
+const BLOCKS: [u32; 2] = [65_536, 4_194_304];
+const MARK: u8 = 0xaa;
 
 /// Few records in little room, about the edge of a block.
 fn list(rng: &mut Rng) -> Vec<u8> {
-    (0..rng.below(9)).flat_map(|_| bytes(record(rng))).collect()
+    (0..rng.below(9)).flat_map(|_| record(rng).to_bytes()).collect()
 }
 
 fn record(rng: &mut Rng) -> Record {
@@ -26,32 +32,112 @@ fn record(rng: &mut Rng) -> Record {
     Record { pos, id, size, off, len }
 }
 
-fn bytes(record: Record) -> [u8; RECORD] {
-    let mut bytes = [0; RECORD];
-    record.write(&mut bytes);
-    bytes
+/// Short lists whose records meet and join, and lists of all shapes.
+fn lists() -> Vec<Vec<u8>> {
+    let mut rng = Rng::new(1);
+    let short = (0..1_000).map(|_| list(&mut rng));
+    let sizes = [1, 2, 3, 4, 7, 10, 47, 48, 63, 64, 65, 200, 300];
+    let shaped = SHAPES.iter().flat_map(|shape| sizes.map(|n| shape.lists(n, 1).remove(0)));
+    short.chain(shaped).collect()
 }
 
-fn filled(write: impl Fn(&mut [u8]) -> Option<usize>) -> Vec<u8> {
-    let mut out = vec![0; 10_000];
+/// What is written, into a buffer with room to spare; one that just fits must do, and one that is
+/// a byte too short must be left alone.
+fn filled(mut write: impl FnMut(&mut [u8]) -> Option<usize>) -> Vec<u8> {
+    let mut out = vec![MARK; most_pieces(LIST_RECORDS, BLOCKS[0]) * PIECE];
     let count = write(&mut out).expect("an answer");
+    assert!(out[count..].iter().all(|byte| *byte == MARK));
     out.truncate(count);
+    let mut fitting = vec![MARK; count];
+    assert_eq!(write(&mut fitting), Some(count));
+    assert_eq!(fitting, out);
+    let mut short = vec![MARK; count.saturating_sub(1)];
+    assert!(count == 0 || write(&mut short).is_none());
+    assert!(short.iter().all(|byte| *byte == MARK));
     out
 }
 
 #[test]
-fn views_and_plans_are_those_of_the_second_program() {
-    let mut rng = Rng::new(1);
-    for _ in 0..1_000 {
-        let list = list(&mut rng);
-        let (chunk, block_size) = (u64::from(CHUNK), u64::from(BLOCK_SIZE));
-        let view = second::view_bytes(&list, chunk).expect("a view");
-        assert_eq!(filled(|out| walk::view(&list, out)), view);
-        assert_eq!(filled(|out| tree::view(&list, out)), view);
-        let plan = second::read_plan_bytes(&list, chunk, block_size, 0, chunk).expect("a plan");
-        for write in [walk::write_plan, tree::write_plan] {
-            assert_eq!(filled(|out| read_plan(write, &list, BLOCK_SIZE, out)), plan);
+fn shapes_have_lists_of_any_length() {
+    for shape in &SHAPES {
+        for records in (1..=100).chain([2_000, LIST_RECORDS]) {
+            for list in shape.lists(records, 2) {
+                assert_eq!(second::check(&list), Ok(records), "{}, {records}", shape.name);
+            }
         }
+    }
+}
+
+#[test]
+fn views_are_those_of_the_second_program() {
+    let mut room = Room::new();
+    for list in lists() {
+        let expected = second::view_bytes(&list, CHUNK.into()).expect("a view");
+        for view in [view, plain::view, tree::view, walk::view] {
+            assert_eq!(filled(|out| view(&list, &mut room, out)), expected);
+        }
+    }
+}
+
+#[test]
+fn tidied_lists_are_those_of_the_second_program() {
+    let mut room = Room::new();
+    for list in lists() {
+        let expected = second::tidy_bytes(&list).expect("a list");
+        assert_eq!(filled(|out| tidy(&list, &mut room, out)), expected);
+    }
+}
+
+/// One run fewer, and the tidied list is short enough.
+#[test]
+fn tidied_lists_that_are_too_long_are_refused() {
+    let mut room = Room::new();
+    for records in [1_024, 1_025] {
+        let whole = Record { pos: 0, id: 1, size: CHUNK, off: 0, len: CHUNK };
+        let over = |i: u32| Record { pos: 2 * i, id: 2, size: CHUNK, off: i, len: 1 };
+        let front = (1..records).flat_map(|i| over(i).to_bytes());
+        let list: Vec<u8> = whole.to_bytes().into_iter().chain(front).collect();
+        let mut out = vec![MARK; 3 * LIST_RECORDS * RECORD];
+        let expected = second::tidy_bytes(&list).ok().map(|bytes| bytes.len());
+        assert_eq!(tidy(&list, &mut room, &mut out), expected);
+        assert_eq!(expected.is_some(), records == 1_024);
+    }
+}
+
+#[test]
+fn plans_are_those_of_the_second_program() {
+    let mut room = Room::new();
+    let chunk = u64::from(CHUNK);
+    for list in lists() {
+        for size in BLOCKS {
+            let expected = second::read_plan_bytes(&list, chunk, size.into(), 0, chunk);
+            assert_eq!(Ok(filled(|out| read_plan(&list, size, &mut room, out))), expected);
+        }
+    }
+    assert_eq!(read_plan(&[], 65_537, &mut room, &mut []), None);
+}
+
+#[test]
+fn compactions_are_those_of_the_second_program() {
+    let mut rng = Rng::new(2);
+    let mut room = Room::new();
+    for list in lists() {
+        let records = list.len() / RECORD;
+        let some = rng.below(records as u64 + 1) as usize;
+        let k = rng.pick(&[records, some]);
+        for block_size in BLOCKS {
+            let order = Order { block_size, k, new_id: 9 };
+            let (plan, new) = second::compact_bytes(&list, block_size.into(), k as u64, 9).unwrap();
+            let mut other = vec![MARK; new.len()];
+            let by_rust = filled(|out| {
+                let (pieces, bytes) = compact(&list, order, &mut room, out, &mut other)?;
+                assert_eq!(bytes, new.len());
+                Some(pieces)
+            });
+            assert_eq!((by_rust, other), (plan, new));
+        }
+        let order = Order { block_size: BLOCKS[0], k: records + 1, new_id: 9 };
+        assert_eq!(compact(&list, order, &mut room, &mut [], &mut []), None);
     }
 }
 
@@ -60,55 +146,75 @@ fn any_record(rng: &mut Rng) -> [u8; RECORD] {
     let edges = [0, 0, 8, 8, 9, CHUNK, CHUNK + 1];
     let mut edge = || rng.pick(&edges);
     let (pos, size, off, len) = (edge(), edge(), edge(), edge());
-    bytes(Record { pos, id: u64::from(edge() % 2), size, off, len })
+    Record { pos, id: u64::from(edge() % 2), size, off, len }.to_bytes()
 }
 
 #[test]
 fn lists_are_accepted_as_by_the_second_program() {
     let mut rng = Rng::new(4);
+    let mut sizes = Room::new().sizes;
     let mut accepted = 0;
     for _ in 0..10_000 {
         let list = any_record(&mut rng);
-        assert_eq!(checked(&list).is_some(), second::check(&list).is_ok(), "{list:?}");
-        accepted += u32::from(checked(&list).is_some());
+        let passes = checked(&list, &mut sizes).is_some();
+        assert_eq!(passes, second::check(&list).is_ok(), "{list:?}");
+        assert_eq!(passes, passed(&list).is_some());
+        accepted += u32::from(passes);
     }
     assert!((1_000..9_000).contains(&accepted));
 }
 
-/// Short lists of few slices, some of which have two sizes.
+/// Lists of few slices, some of which have two sizes.
 #[test]
 fn sizes_are_accepted_as_by_the_second_program() {
     let mut rng = Rng::new(5);
+    let mut sizes = Room::new().sizes;
     let mut accepted = 0;
     for _ in 0..10_000 {
-        let slice =
-            |rng: &mut Rng| Record { size: 200_000 + rng.below(8) as u32 / 7, ..record(rng) };
-        let list: Vec<u8> = (0..rng.below(6)).flat_map(|_| bytes(slice(&mut rng))).collect();
-        let passes = checked(&list).is_some();
+        let slices = 1 + rng.below(40);
+        let slice = |rng: &mut Rng| {
+            let size = 200_000 + rng.below(40) as u32 / 39;
+            Record { id: rng.below(slices) << 50, size, pos: 0, off: 0, len: 0 }
+        };
+        let one = |rng: &mut Rng| match slice(rng) {
+            zeros @ Record { id: 0, .. } => Record { size: 0, ..zeros },
+            other => other,
+        };
+        let list: Vec<u8> = (0..rng.below(40)).flat_map(|_| one(&mut rng).to_bytes()).collect();
+        let passes = checked(&list, &mut sizes).is_some();
         assert_eq!(passes, second::check(&list).is_ok(), "{list:?}");
         accepted += u32::from(passes);
     }
     assert!((1_000..9_000).contains(&accepted));
 }
 
+/// The segment that holds a position, each looked at.
+fn held(row: &[Record], position: u32) -> seek::Found {
+    let holds = |r: &Record| r.pos <= position && position - r.pos < r.len;
+    row.iter().copied().enumerate().find(|(_, segment)| holds(segment))
+}
+
 #[test]
-fn compactions_are_those_of_the_second_program() {
-    let mut rng = Rng::new(2);
-    for _ in 0..1_000 {
-        let list = list(&mut rng);
-        let k = (list.len() / RECORD) as u64;
-        let answers = second::compact_bytes(&list, u64::from(BLOCK_SIZE), k, 9).expect("a plan");
-        for write in [walk::write_plan, tree::write_plan] {
-            let (mut plan, mut new_list) = (vec![0; 10_000], vec![0; RECORD]);
-            let counts = compact(write, &list, BLOCK_SIZE, 9, &mut plan, &mut new_list);
-            // Lists that cover nothing aren't timed and have no answer here.
-            let Some((pieces, records)) = counts else {
-                assert!(answers.0.is_empty());
-                continue;
-            };
-            assert_eq!((&plan[..pieces], &new_list[..records]), (&answers.0[..], &answers.1[..]));
+fn seeking_finds_what_holds_the_position() {
+    for list in lists() {
+        let view = second::view_bytes(&list, u64::from(CHUNK) - 1).expect("a view");
+        let row = seek::row(&view);
+        let edges = row.iter().flat_map(|r| [r.pos, r.pos + r.len / 2, r.pos + r.len - 1]);
+        for position in edges.chain([CHUNK - 1, CHUNK, u32::MAX]) {
+            let found = held(&row, position);
+            assert_eq!(found.is_some(), position < CHUNK - 1);
+            assert_eq!(seek::walk(&view, position), found);
+            assert_eq!(seek::halve(&row, position), found);
+            assert_eq!(find(&view, position), found);
         }
     }
+}
+
+fn text(write: &dyn Fn(&mut [u8]) -> Option<usize>) -> Vec<u8> {
+    let mut out = vec![0; 128];
+    let count = write(&mut out).expect("a text");
+    out.truncate(count);
+    out
 }
 
 #[test]
@@ -118,13 +224,13 @@ fn names_and_keys_are_those_of_the_second_program() {
         let (id, block) = (1 + (rng.u64() >> 1 >> rng.below(63)), rng.below(1_024));
         let (length, index) = (1 + rng.below(16_777_216), rng.below(1 << 32));
         let name = second::full_name(b"v", id, block, length).expect("a name");
-        assert_eq!(filled(|out| texts::write_name(b"v", id, block, length, out)), name);
+        assert_eq!(text(&|out| texts::write_name(b"v", id, block, length, out)), name);
         assert_eq!(texts::read_name(&name), Some((1, id, block, length)));
         let redis = second::redis_key(id, index).expect("a key");
-        assert_eq!(filled(|out| texts::write_redis(id, index, out)), redis);
+        assert_eq!(text(&|out| texts::write_redis(id, index, out)), redis);
         assert_eq!(texts::read_redis(&redis), Some((id, index)));
         let tkv = second::tkv_key(id, index).expect("a key");
-        assert_eq!(filled(|out| texts::write_tkv(id, index, out)), tkv);
+        assert_eq!(text(&|out| texts::write_tkv(id, index, out)), tkv);
         assert_eq!(texts::read_tkv(&tkv), Some((id, index)));
     }
 }

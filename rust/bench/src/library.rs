@@ -1,0 +1,145 @@
+//! The calls of an archive, as safe functions. Two archives can be timed in one run: the present
+//! one, and another that was built before and whose calls bear other names.
+
+use ezumokarin::sys::{self, ezk_answer, ezk_compacted};
+
+use crate::record::{Record, CHUNK};
+use crate::yard::compact::Order;
+use crate::yard::seek::Found;
+
+type Out = *mut u8;
+type In = *const u8;
+
+/// Its calls that resolve a list.
+#[derive(Clone, Copy)]
+pub struct Library {
+    view: unsafe extern "C" fn(In, usize, u64, Out, usize) -> ezk_answer,
+    tidy: unsafe extern "C" fn(In, usize, Out, usize) -> ezk_answer,
+    read_plan: unsafe extern "C" fn(In, usize, u64, u64, u64, u64, Out, usize) -> ezk_answer,
+    compact: Compact,
+}
+
+type Compact =
+    unsafe extern "C" fn(In, usize, u64, u64, u64, Out, usize, Out, usize) -> ezk_compacted;
+
+pub const NOW: Library = Library {
+    view: sys::ezk_view,
+    tidy: sys::ezk_tidy,
+    read_plan: sys::ezk_read_plan,
+    compact: sys::ezk_compact,
+};
+
+#[cfg(not(before))]
+pub const BEFORE: Option<Library> = None;
+
+#[cfg(before)]
+pub const BEFORE: Option<Library> = Some(Library {
+    view: before::before_ezk_view,
+    tidy: before::before_ezk_tidy,
+    read_plan: before::before_ezk_read_plan,
+    compact: before::before_ezk_compact,
+});
+
+#[cfg(before)]
+mod before {
+    use super::{ezk_answer, ezk_compacted, In, Out};
+
+    extern "C" {
+        pub fn before_ezk_view(l: In, n: usize, c: u64, o: Out, m: usize) -> ezk_answer;
+        pub fn before_ezk_tidy(l: In, n: usize, o: Out, m: usize) -> ezk_answer;
+        #[rustfmt::skip]
+        pub fn before_ezk_read_plan(
+            l: In,
+            n: usize,
+            c: u64,
+            b: u64,
+            s: u64,
+            r: u64,
+            o: Out,
+            m: usize,
+        ) -> ezk_answer;
+        #[rustfmt::skip]
+        pub fn before_ezk_compact(
+            l: In,
+            n: usize,
+            b: u64,
+            k: u64,
+            i: u64,
+            p: Out,
+            m: usize,
+            o: Out,
+            q: usize,
+        ) -> ezk_compacted;
+    }
+}
+
+// Safe because a slice is a pointer and a length that are good for the whole call.
+impl Library {
+    /// The view of the whole chunk.
+    #[inline]
+    pub fn view(&self, list: &[u8], out: &mut [u8]) -> Option<usize> {
+        let (o, m) = (out.as_mut_ptr(), out.len());
+        counted(unsafe { (self.view)(list.as_ptr(), list.len(), CHUNK.into(), o, m) })
+    }
+
+    #[inline]
+    pub fn tidy(&self, list: &[u8], out: &mut [u8]) -> Option<usize> {
+        let (o, m) = (out.as_mut_ptr(), out.len());
+        counted(unsafe { (self.tidy)(list.as_ptr(), list.len(), o, m) })
+    }
+
+    /// The plan of the whole chunk.
+    #[inline]
+    pub fn read_plan(&self, list: &[u8], block_size: u32, out: &mut [u8]) -> Option<usize> {
+        let (l, n, o, m) = (list.as_ptr(), list.len(), out.as_mut_ptr(), out.len());
+        let chunk = u64::from(CHUNK);
+        counted(unsafe { (self.read_plan)(l, n, chunk, block_size.into(), 0, chunk, o, m) })
+    }
+
+    #[inline]
+    pub fn compact(
+        &self,
+        list: &[u8],
+        order: Order,
+        plan: &mut [u8],
+        new_list: &mut [u8],
+    ) -> Option<(usize, usize)> {
+        let (l, n, p, m) = (list.as_ptr(), list.len(), plan.as_mut_ptr(), plan.len());
+        let (o, q) = (new_list.as_mut_ptr(), new_list.len());
+        let (b, k) = (order.block_size.into(), order.k as u64);
+        let answer = unsafe { (self.compact)(l, n, b, k, order.new_id, p, m, o, q) };
+        (answer.refusal == 0).then_some((answer.plan as usize, answer.list as usize))
+    }
+}
+
+fn counted(answer: ezk_answer) -> Option<usize> {
+    (answer.refusal == 0).then_some(answer.count as usize)
+}
+
+/// What `ezk_find` returns, as the header gives it.
+#[repr(C)]
+struct ezk_found {
+    refusal: u64,
+    place: u64,
+    found: u64,
+    segment: u64,
+    pos: u64,
+    id: u64,
+    size: u64,
+    off: u64,
+    len: u64,
+}
+
+extern "C" {
+    fn ezk_find(view: In, view_len: usize, segments: u64, position: u64) -> ezk_found;
+}
+
+/// Seeks in the bytes of a view; all of them are segments.
+#[inline]
+pub fn find(view: &[u8], position: u32) -> Found {
+    let segments = (view.len() / crate::record::RECORD) as u64;
+    let f = unsafe { ezk_find(view.as_ptr(), view.len(), segments, position.into()) };
+    let (pos, id, size) = (f.pos as u32, f.id, f.size as u32);
+    let segment = Record { pos, id, size, off: f.off as u32, len: f.len as u32 };
+    (f.refusal == 0 && f.found == 1).then_some((f.segment as usize, segment))
+}

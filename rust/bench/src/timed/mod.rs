@@ -1,0 +1,34 @@
+//! What is timed: first all programs must agree, then each is measured.
+
+mod calls;
+mod check;
+mod row;
+mod same;
+mod seek;
+mod texts;
+
+pub use row::{Row, Who};
+
+/// Numbers of records; the view is also timed at the short ones.
+pub const SHORT: [usize; 3] = [1, 2, 4];
+pub const SIZES: [usize; 3] = [10, 200, 2_000];
+
+/// The names of the calls in the rows.
+pub const VIEW: &str = "view";
+pub const TIDY: &str = "tidy";
+pub const PLAN: &str = "read plan, blocks of 4 MiB";
+pub const SMALL_PLAN: &str = "read plan, blocks of 64 KiB";
+pub const COMPACT: &str = "compaction";
+pub const FIND: &str = "find";
+pub const CHECK: &str = "check";
+pub const NAMES: &str = "full name";
+pub const KEYS: &str = "chunk keys";
+
+/// All rows, or what two programs differ in.
+pub fn all() -> Result<Vec<Row>, String> {
+    let mut rows = calls::rows()?;
+    rows.extend(seek::rows()?);
+    rows.extend(check::rows()?);
+    rows.extend(texts::rows()?);
+    Ok(rows)
+}

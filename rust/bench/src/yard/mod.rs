@@ -1,0 +1,25 @@
+//! The yardsticks: plain, optimised Rust that makes the archive's checks and gives its bytes.
+//!
+//! `walk` is quadratic, `tree` cuts the records into one another. The rest is the best we can
+//! write: the records are sorted by position (`order`), a sweep over the chunk keeps the open ones
+//! in a set of bits (`open`, `sweep`), and views, plans and compaction are written on the way.
+//! `plain` is that sweep without its last refinements.
+
+pub mod check;
+pub mod compact;
+mod open;
+mod order;
+pub mod plain;
+pub mod plan;
+mod room;
+mod runs;
+pub mod seek;
+mod sizes;
+mod source;
+mod sweep;
+pub mod texts;
+pub mod tree;
+pub mod view;
+pub mod walk;
+
+pub use room::{most_pieces, Room};
