@@ -6,14 +6,14 @@ use std::time::Duration;
 use crate::clock::now;
 
 /// Many short turns, so that what disturbs some of them is no part of the median.
-const ROUNDS: u32 = 121;
+const ROUNDS: u32 = 201;
 /// A program runs about this long in each round.
 const TURN: Duration = Duration::from_micros(250);
 /// A program that takes longer than this for all inputs takes one of them in each round.
 const LONG: Duration = Duration::from_millis(2);
 /// One that takes longer than this for one input does so in few of the rounds.
 const VERY_LONG: Duration = Duration::from_millis(4);
-const FEW_ROUNDS: u32 = 5;
+const FEW_ROUNDS: u32 = 7;
 
 /// Takes each of the inputs so many times.
 pub type Program<'a, T> = Box<dyn FnMut(&[T], u32) + 'a>;
@@ -63,11 +63,10 @@ impl Turn {
 }
 
 fn turn<T>(inputs: &[T], program: &mut Program<T>) -> Turn {
-    let first = time(&inputs[..1], 1, program);
-    if first >= VERY_LONG {
+    if time(&inputs[..1], 1, program) >= VERY_LONG {
         return Turn::One(ROUNDS / FEW_ROUNDS);
     }
-    if first * inputs.len() as u32 >= LONG {
+    if time(inputs, 1, program) >= LONG {
         return Turn::One(1);
     }
     let mut times = 1;

@@ -35,13 +35,14 @@ pub fn view(rows: &[Row]) -> String {
     table(&head, "nnnwnnnnw", SHORT.iter().chain(&SIZES).map(line).collect())
 }
 
-/// The view of the longest lists, in each shape.
+/// The view of the longest lists, in each shape; one figure of shorter ones too.
 pub fn shapes(rows: &[Row]) -> String {
     let head = [
         "shape",
         "view, us",
         "best Rust, us",
         "view / best",
+        "at 200",
         "plain sweep, us",
         "view / plain",
         "cut tree, us",
@@ -50,13 +51,15 @@ pub fn shapes(rows: &[Row]) -> String {
         "before, us",
         "view / before",
     ];
-    let [.., most] = SIZES;
+    let [.., fewer, most] = SIZES;
+    let shorter = |row: &Row| select(rows, VIEW, fewer).find(|other| other.shape == row.shape);
     let line = |row: &Row| {
         vec![
             row.shape.into(),
             number(row.time(Who::Now)),
             number(row.time(Who::Best)),
             number(row.ratio(Who::Now, Who::Best)),
+            number(shorter(row).and_then(|shorter| shorter.ratio(Who::Now, Who::Best))),
             number(row.time(Who::Plain)),
             number(row.ratio(Who::Now, Who::Plain)),
             number(row.time(Who::Tree)),
@@ -66,7 +69,7 @@ pub fn shapes(rows: &[Row]) -> String {
             number(row.ratio(Who::Now, Who::Before)),
         ]
     };
-    table(&head, "wnnnnnnnnnn", select(rows, VIEW, most).map(line).collect())
+    table(&head, "wnnnnnnnnnnn", select(rows, VIEW, most).map(line).collect())
 }
 
 /// Tidied lists, plans and compaction.

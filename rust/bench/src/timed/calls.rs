@@ -64,7 +64,7 @@ fn row(
             .map_err(|what| format!("{name}, {}, {records} records: {what}", shape.name))?;
         match counts {
             Some((fits, _)) => inputs.push(Input { list, fits }),
-            None if name == TIDY => return Ok(None),
+            None if matches!(call, Call::Tidy) => return Ok(None),
             None => return Err(format!("{name}, {}, {records} records: refused", shape.name)),
         }
     }

@@ -42,8 +42,9 @@ impl Spans {
         Some((position(*keys.first()?), ends.max()?))
     }
 
-    /// Calls `visit` with each segment from `from` on, up to `to`, which no record passes: where it begins and the
-    /// record on top, counted from 1, or 0. The set is searched only where the top one has ended.
+    /// Calls `visit` with each segment from `from` on, up to `to`, which no record passes: where it
+    /// begins, and the record on top, counted from 1, or 0. The set is searched only where the top
+    /// one has ended.
     #[inline(always)]
     pub fn segments(&self, from: u32, to: u32, mut visit: impl FnMut(u32, u32)) {
         let mut keys = self.keys[..self.count].iter().copied();
@@ -69,7 +70,7 @@ impl Spans {
         }
     }
 
-    /// Segments up to `to` as above; the set is searched at each.
+    /// The segments up to `to`, with the record on top; the set is searched at each.
     #[inline(always)]
     pub fn searched(&self, to: u32, mut visit: impl FnMut(u32, Option<u32>)) {
         let mut keys = self.keys[..self.count].iter().copied();
