@@ -14,10 +14,12 @@ ghost use Rattle.slices.specs.Record.{records};
 ghost use Rattle.resolve.specs.Resolved.{OnTop, Ready, Holds};
 ghost use Rattle.resolve.specs.Tops.{idOn};
 ghost use Rattle.runs.specs.Inner.{Unbroken, Leads};
+ghost use Rattle.runs.specs.Runs.{Stops};
 ghost use Rattle.plans.specs.Inner.{Shifts};
 ghost use Rattle.plans.specs.Location.{locationAt, nextLocation, onward};
 
-// A position behind p, and at most `end`, up to which the locations go on from p, which segment k holds.
+// A position behind p, and at most `end`, up to which the locations go on from p, which segment k holds. In front of the segment's end it is
+// the end of a block.
 fn same_block_to(
     list: &[u8],
     marks: &[u32],
@@ -33,10 +35,11 @@ fn same_block_to(
     requires { ⌜ (p < end) × Shifts block bits ⌝ }
     requires { ⌜ Holds (now marks) m k p ⌝ }
     ensures { λ e. ⌜ Unbroken nextLocation (locationAt block (records (now (list .entry)))) p end e × (e ≤ getD (now (marks .entry)) (k + 1) 0) ⌝ }
+    ensures { λ e. ⌜ (e < getD (now (marks .entry)) (k + 1) 0 → Stops nextLocation (locationAt block (records (now (list .entry)))) e end) ⌝ }
 {
     let e = segments::until(marks, k, end);
     let top = tops[k];
-    if tops::id_on(list, top) == 0 {
+    if shifts::is_none(tops::id_on(list, top), block, bits) {
         return e;
     }
     let off = tops::off_in(list, tops::wide(top) - 1, p);
@@ -85,7 +88,10 @@ pub(crate) fn reach(
     let mut segment = k;
     let mut e = same_block_to(list, marks, tops, m, k, p, end, block, bits);
     while e < end {
-        segment = segments::holding(marks, m, segment, e);
+        if e < marks[segment + 1] {
+            return Reached { end: e, segment };
+        }
+        segment += 1;
         if joins(list, id, top, p, tops[segment], e, block) {
             e = same_block_to(list, marks, tops, m, segment, e, end, block, bits);
         } else {

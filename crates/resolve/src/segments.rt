@@ -1,6 +1,6 @@
 // The segments of a resolved list: where one ends, and the one that holds a position.
 use crate::sweep;
-ghost use Prim.Native.Nat.{ℕ, _+_, _≤_, _<_};
+ghost use Prim.Native.Nat.{_+_, _≤_, _<_};
 ghost use lib.ListN.{length, getD};
 ghost use Rattle.resolve.specs.Resolved.{Holds};
 ghost use Rattle.resolve.specs.Sweep.{Lesser};
@@ -11,20 +11,6 @@ pub fn until(marks: &[u32], k: usize, end: u32) -> u32
     ensures { λ r. ⌜ Lesser (getD (now (marks .entry)) (k + 1) 0) end r ⌝ }
 {
     sweep::lesser(marks[k + 1], end)
-}
-
-// The segment that holds e, a position behind one of segment k and no further than its end.
-pub fn holding(marks: &[u32], m: usize, k: usize, e: u32) -> usize
-    requires { ⌜ (k < m) × (m < length (now marks)) ⌝ }
-    requires { ⌜ (getD (now marks) k 0 ≤ e) × (e ≤ getD (now marks) (k + 1) 0) ⌝ }
-    requires { ⌜ e < getD (now marks) m 0 ⌝ }
-    requires { ⌜ ((j : ℕ) → j < m → getD (now marks) j 0 < getD (now marks) (j + 1) 0) ⌝ }
-    ensures { λ r. ⌜ Holds (now (marks .entry)) m r e ⌝ }
-{
-    if e < marks[k + 1] {
-        return k;
-    }
-    k + 1
 }
 
 // The segment that holds a position.

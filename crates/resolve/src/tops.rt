@@ -43,6 +43,17 @@ pub fn size_at(list: &[u8], i: usize) -> u32
     size
 }
 
+// How far p lies behind a position. The test, which never holds, keeps the compiler from taking the position apart into bytes.
+fn behind(p: u32, pos: u32) -> u32
+    requires { ⌜ pos ≤ p ⌝ }
+    ensures { λ r. ⌜ r ≡ p - pos ⌝ }
+{
+    if p < pos {
+        return 0;
+    }
+    p - pos
+}
+
 // Its slice offset at a position p that it covers, where it has a slice.
 pub fn off_in(list: &[u8], i: usize, p: u32) -> u32
     requires { ⌜ i * recordSize + recordSize ≤ length (now list) ⌝ }
@@ -50,8 +61,7 @@ pub fn off_in(list: &[u8], i: usize, p: u32) -> u32
     requires { ⌜ (recordAt (now list) i .pos ≤ p) × (p < recordAt (now list) i .pos + recordAt (now list) i .len) ⌝ }
     ensures { λ r. ⌜ r ≡ recordAt (now (list .entry)) i .off + (p - recordAt (now (list .entry)) i .pos) ⌝ }
 {
-    let d = p - records::read_pos(list, i);
-    records::read_off(list, i) + d
+    records::read_off(list, i) + behind(p, records::read_pos(list, i))
 }
 
 // The slice offset that record i gives to a position p that it covers; 0 where it covers it with zeros.

@@ -1,14 +1,12 @@
-// The cover of a list: the source of each position.
-use crate::RECORD;
+// What a record gives to the positions that it covers.
 use crate::Source;
 use crate::records;
 ghost use mathlib.Core.Path.{_≡_};
 ghost use Prim.Native.Nat.{_+_, _*_, _≤_, _<_};
 ghost use lib.ListN.{length};
-ghost use Rattle.codec.specs.All.{All};
 ghost use Rattle.slices.specs.Limits.{recordSize};
-ghost use Rattle.slices.specs.Record.{recordAt, records};
-ghost use Rattle.slices.specs.Cover.{given, cover};
+ghost use Rattle.slices.specs.Record.{recordAt};
+ghost use Rattle.slices.specs.Cover.{given};
 ghost use Rattle.slices.specs.Passes.{Passes};
 
 // The source that record i gives to the position d behind its first.
@@ -27,21 +25,4 @@ pub fn given(list: &[u8], i: usize, d: u32) -> Source
         size: r.size,
         off: r.off + d,
     }
-}
-
-// The source of a position: the last record that covers it gives it.
-pub fn source_at(list: &[u8], p: u32) -> Source
-    requires { ⌜ All Passes (records (now list)) ⌝ }
-    ensures { λ s. ⌜ s ≡ cover (records (now (list .entry))) p ⌝ }
-{
-    let mut i = list.len() / RECORD;
-    while 0 < i {
-        i -= 1;
-        // One comparison a record: a position in front of it wraps to a distance past its end.
-        let d = std::num::wrapping_sub_u32(p, records::read_pos(list, i));
-        if d < records::read_len(list, i) {
-            return given(list, i, d);
-        }
-    }
-    Source::Nothing
 }

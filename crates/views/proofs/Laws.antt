@@ -7,7 +7,6 @@ pub mod Fits
 pub mod OneSize
 pub mod RunCover
 pub mod Tidied
-pub mod Steps
 pub mod Segments
 pub mod Tops
 pub mod Calls

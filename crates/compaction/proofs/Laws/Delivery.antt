@@ -18,9 +18,8 @@ use Rattle.outcomes.specs.declared.Answer.the-variants.{Wrote, Refused}
 use Rattle.outcomes.specs.declared.Refusal.{Refusal}
 use Rattle.slices.specs.Passes.{Passes}
 use Rattle.slices.specs.Record.{encodeAll, count, records}
-use Rattle.plans.specs.Piece.{pieceSize, encodePieces}
+use Rattle.plans.specs.Piece.{encodePieces}
 use Rattle.plans.specs.Plan.{pieces}
-use Rattle.plans.proofs.Laws.Pieces.{length-encodePieces}
 use Rattle.compaction.specs.Compaction.{compactionPlan, planBytes, newList, newListBytes}
 use Rattle.compaction.specs.Calls.{both, deliveredBoth, Compacts}
 use Rattle.compaction.specs.Inner.{standFor, Ends}
@@ -28,8 +27,6 @@ use Rattle.codec.proofs.Laws.All.{all-take}
 use Rattle.slices.proofs.Laws.Firsts.{encode-append, firsts-records, rest-bytes}
 use Rattle.compaction.proofs.Laws.Calls.{short-plan, short-list, room-for-both}
 use Rattle.outcomes.proofs.Laws.Answers.{replies-refused, replies-done, short-said, done-said}
-use Rattle.runs.specs.Runs.{Run}
-use Rattle.plans.specs.declared.Location.{Location}
 use Rattle.compaction.specs.declared.Compacted.the-variants as compacted
 
 -- what is put behind what stands at the front

@@ -3,7 +3,7 @@ use Prim.Native.Nat.{ℕ, zero, suc, _+_, _-_, _*_, _/_, _%_, _≤_, _<_}
 use native.Mathlib.Omega.{arith}
 use native.Mathlib.Nat.{add-mul, suc-mul, add-div-right, div-add-mod', mul-mod-left, add-mod-right, div-mul-le-self, le-div-iff-mul-le, mod-lt}
 use native.Mathlib.Decide.{decLt, ℕ-discrete}
-use mathlib.Core.Path.{_≡_, refl, sym, ap, _∙_}
+use mathlib.Core.Path.{_≡_, refl, ap, _∙_}
 use mathlib.Core.Logic.{_≢_, inl, inr}
 use mathlib.Core.List.{List}
 use lib.ListN.{length, getD, length-map}
@@ -26,7 +26,7 @@ use Rattle.plans.specs.Location.{locationAt, nextLocation}
 use Rattle.plans.specs.Piece.{pieceSize, encodePieces}
 use Rattle.plans.specs.Plan.{pieces}
 use Rattle.plans.proofs.Laws.Pieces.{length-encodePieces}
-use Rattle.plans.proofs.Laws.Tops.{Giving, top-giving, hole-on, byte-on}
+use Rattle.plans.proofs.Laws.Tops.{top-giving, hole-on, byte-on}
 use Rattle.plans.proofs.Laws.Walk.{left-all}
 
 -- whole blocks of two parts are whole blocks of both together

@@ -181,3 +181,16 @@ ids-part B s t k n = go (nextLocation (onward (location B s) k) (location B t)) 
 pub ids-none : (B : ℕ) (s t : Source) (k : ℕ) → Real s → Real t → idOf s ≡ 0 → idOf t ≡ 0 → nextLocation (onward (location B s) k) (location B t) ≡ true
 unfolding nextLocation onward
 ids-none B s t k h g a b = rw (id-hole B s h a, id-hole B t g b)
+
+-- ---- where a block begins
+
+pub blocks-part : (B i z o o' : ℕ) → 0 < B → o' ≡ suc o → o' % B ≡ 0 → nextLocation (location B (Byte i z o)) (location B (Byte i z o')) ≡ false
+unfolding nextLocation location
+blocks-part B i z o o' some e h = go (nextLocation (location B (Byte i z o)) (location B (Byte i z o'))) refl
+  where
+    go : (x : Bool) → nextLocation (location B (Byte i z o)) (location B (Byte i z o')) ≡ x → x ≡ false
+    go false k = refl
+    go true k =
+        let x = and-both (eqb i i) _ k .1 in
+        let y = eqb-true (o / B) (o' / B) (and-both (eqb (o / B) (o' / B)) _ x .0) in
+        absurd (omega (arith, div-add-mod' o B, div-add-mod' o' B, ap (λ (q : ℕ). q * B) y))

@@ -1,9 +1,12 @@
 -- Blocks by shifting: a block of 2 ^ bits bytes. Assumes nothing.
-use Prim.Native.Nat.{ℕ, _+_, _-_, _*_, _/_, _%_, _^_, _≤_, _<_, min}
+use Prim.Native.Nat.{ℕ, _-_, _*_, _/_, _%_, _^_, _≤_, _<_}
 use native.Mathlib.Omega.{arith}
-use native.Mathlib.Nat.{div-add-mod', mod-lt}
-use mathlib.Core.Path.{_≡_, refl, sym, ap, _∙_}
+use native.Mathlib.Nat.{div-add-mod', mod-lt, div-self}
+use mathlib.Core.Path.{_≡_, sym, ap, _∙_}
+use native.Mathlib.Decide.{ℕ-discrete}
+use lib.Dec.{ltb, eqb}
 use lib.Pow.{pow-pos}
+use borrow.Author.Tests.{lt-ltb, le-ltb, eq-eqb, ne-eqb}
 use Rattle.blocks.specs.Blocks.{blockLength}
 use Rattle.plans.specs.Inner.{Shifts}
 
@@ -36,3 +39,14 @@ module _ (B bits : ℕ) (h : Shifts B bits) where
     pub shift-full : (z : ℕ) → B ≤ z - n * B → B ≡ blockLength B z (off / B)
     unfolding blockLength
     shift-full z l = omega (arith, begins)
+
+  -- below 2 ^ bits / 2 ^ bits is 0 alone
+  pub none-test : (id n : ℕ) → n ≡ B / 2 ^ bits → ltb id n ≡ eqb id 0
+  none-test id n e = go (ℕ-discrete id 0)
+    where
+      one : n ≡ 1
+      one = e ∙ ap (λ (b : ℕ). b / 2 ^ bits) (h .power) ∙ div-self (pow-pos bits)
+
+      go : Dec (id ≡ 0) → ltb id n ≡ eqb id 0
+      go (yes z) = lt-ltb id n (omega (arith, one)) ∙ sym (eq-eqb id 0 z)
+      go (no z) = le-ltb id n (omega (arith, one)) ∙ sym (ne-eqb id 0 z)

@@ -1,29 +1,32 @@
 -- Where a position lies, by the record on top of it. Assumes nothing.
-use Prim.Native.Nat.{ℕ, zero, suc, _+_, _-_, _*_, _%_, _≤_, _<_}
+use Prim.Native.Nat.{ℕ, zero, suc, _+_, _-_, _*_, _/_, _%_, _≤_, _<_}
 use native.Mathlib.Omega.{arith}
+use native.Mathlib.Nat.{suc-mul, div-add-mod', mul-mod-left, mod-lt}
 use mathlib.Core.Path.{_≡_, refl, sym, ap, _∙_}
 use mathlib.Core.Bool.{true, false}
-use mathlib.Core.Logic.{_≢_}
+use mathlib.Core.Logic.{_≢_, ⊎-elim}
 use mathlib.Core.List.{List}
-use lib.ListN.{length}
+use lib.ListN.{length, getD}
 use Rattle.codec.specs.All.{All}
 use Rattle.slices.specs.Cover.{cover, given}
 use Rattle.slices.specs.Passes.{Passes}
-use Rattle.slices.specs.Limits.{recordSize}
+use Rattle.slices.specs.Limits.{recordSize, chunk}
 use Rattle.slices.specs.Record.{recordAt, records, count}
 use Rattle.slices.proofs.Laws.Record.{records-at}
 use Rattle.slices.proofs.Laws.Cover.{given-byte}
 use Rattle.slices.proofs.Laws.Sources.{cover-real}
-use Rattle.resolve.specs.Resolved.{OnTop}
+use Rattle.resolve.specs.Resolved.{OnTop, Resolved, Holds}
+use Rattle.resolve.specs.Sweep.{Lesser}
 use Rattle.resolve.specs.Tops.{idOn}
-use Rattle.resolve.proofs.Laws.Resolved.{source-some}
-use Rattle.resolve.proofs.Laws.Tops.{idOf, id-cover}
+use Rattle.resolve.proofs.Laws.Resolved.{source-some, resolved-at}
+use Rattle.resolve.proofs.Laws.Tops.{id-cover}
 use Rattle.runs.specs.Inner.{Unbroken}
+use Rattle.runs.specs.Runs.{Parts, Stops}
 use Rattle.views.specs.View.{next}
-use Rattle.plans.specs.Inner.{InBlock, markOf}
+use Rattle.plans.specs.Inner.{markOf}
 use Rattle.plans.specs.Piece.{objectMark}
 use Rattle.plans.specs.Location.{location, locationAt, nextLocation, onward}
-use Rattle.plans.proofs.Laws.Locations.{id-hole, block-hole, block-byte, ids-part, ids-none, locations-on}
+use Rattle.plans.proofs.Laws.Locations.{id-hole, block-hole, block-byte, ids-part, ids-none, locations-on, blocks-part}
 use Rattle.slices.specs.declared.Source.the-variants.{Byte}
 use Rattle.plans.specs.declared.Location.the-variants.{Hole}
 
@@ -58,6 +61,17 @@ module _ (B : ℕ) (bs : List ℕ) where
     module _ (i : ℕ) (is : top ≡ suc i) (n : recordAt bs i .id ≢ 0) where
       pub top-byte : cover (records bs) p ≡ Byte (recordAt bs i .id) (recordAt bs i .size) (recordAt bs i .off + (p - recordAt bs i .pos))
       top-byte = source-some bs top p i t is ∙ given-byte (recordAt bs i) p n
+
+      -- where a block begins, the locations part
+      pub byte-parts : (q : ℕ) → 0 < B → suc q ≡ p → OnTop bs top q (q + 1) → (recordAt bs i .off + (p - recordAt bs i .pos)) % B ≡ 0 → Parts nextLocation (locationAt B (records bs)) q
+      unfolding locationAt location nextLocation
+      byte-parts q some e u z =
+          let x = source-some bs top q i u is ∙ given-byte (recordAt bs i) q n in
+          let y : cover (records bs) (suc q) ≡ Byte (recordAt bs i .id) (recordAt bs i .size) (recordAt bs i .off + (p - recordAt bs i .pos)) = ap (cover (records bs)) e ∙ top-byte in
+          let c = u .covering i is in
+          let o = recordAt bs i .off + (q - recordAt bs i .pos) in
+          let s : recordAt bs i .off + (p - recordAt bs i .pos) ≡ suc o = omega (arith, c .1) in
+          rw (x, y) (blocks-part B (recordAt bs i .id) (recordAt bs i .size) o (recordAt bs i .off + (p - recordAt bs i .pos)) some s z)
 
       -- bytes go on up to the end of their block
       pub byte-on : (end e o r : ℕ) → Unbroken next (cover (records bs)) p end e → o ≡ recordAt bs i .off + (p - recordAt bs i .pos)
@@ -97,3 +111,17 @@ top-location B bs top p i t g = ap (location B) (source-some bs top p i t (g .is
 pub giving-mark : (B : ℕ) (bs : List ℕ) (top p i : ℕ) → Giving bs top p i → objectMark ≡ markOf (location B (given (recordAt bs i) p))
 unfolding markOf location
 giving-mark B bs top p i g = rw (given-byte (recordAt bs i) p (g .some))
+
+-- ---- a block that ends inside a segment
+
+module _ (B : ℕ) (bs marks tops : List ℕ) (m : ℕ) (r : Resolved bs marks tops m chunk) (k : ℕ) {p : ℕ} (t : Holds marks m k p) (some : 0 < B) where
+  pub block-stops : (i : ℕ) → getD tops k 0 ≡ suc i → recordAt bs i .id ≢ 0 → (end u d : ℕ) → Lesser (getD marks (k + 1) 0) end u
+      → Unbroken next (cover (records bs)) p end u → {o : ℕ} → o ≡ recordAt bs i .off + (p - recordAt bs i .pos) → 0 < d → d ≤ u - p → (d < u - p → d ≡ B - o % B)
+      → p + d < getD marks (k + 1) 0 → Stops nextLocation (locationAt B (records bs)) (p + d) end
+  block-stops i is n end u d s v {o = o} q x y w h j e l =
+      let less : d < u - p = ⊎-elim (λ f. omega (arith, v .some)) (λ f. omega (arith, v .some)) (s .one) in
+      let holds : (g : ℕ) → p ≤ g → g < getD marks (k + 1) 0 → Holds marks m k g = λ g a b. record { inside = t .inside; from = omega (arith, t .from); to = b } in
+      let c = resolved-at bs marks tops m chunk r k p t .covering i is in
+      let f : recordAt bs i .off + (p + d - recordAt bs i .pos) ≡ suc (o / B) * B = omega (arith, c .1, q, w less, div-add-mod' o B, suc-mul (o / B) B, mod-lt o some) in
+      byte-parts B bs (getD tops k 0) (p + d) (resolved-at bs marks tops m chunk r k (p + d) (holds (p + d) (omega arith) h)) i is n j some e
+      (resolved-at bs marks tops m chunk r k j (holds j (omega arith) (omega arith))) (ap (λ (a : ℕ). a % B) f ∙ mul-mod-left (suc (o / B)) B)

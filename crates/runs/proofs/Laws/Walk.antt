@@ -6,7 +6,7 @@ use native.Mathlib.Decide.{decLt}
 use mathlib.Core.Path.{_≡_, sym, ap, _∙_}
 use mathlib.Core.Bool.{Bool, true, false}
 use Rattle.runs.specs.Inner.{Unbroken, Leads}
-use Rattle.runs.specs.Runs.{Joins, Parts}
+use Rattle.runs.specs.Runs.{Joins, Parts, Stops}
 use Rattle.runs.proofs.Laws.Runs.{runs-cons}
 
 module _ {A : Type 0} (next : A → A → Bool) (on : A → ℕ → A)
@@ -48,6 +48,9 @@ module _ {A : Type 0} (next : A → A → Bool) (on : A → ℕ → A)
         inside = i;
         splits = rw (k, n) (runs-cons next f p (e - p - 1) (end - p - 1) e (end - e) (omega arith) (omega arith) (λ q a b. u .joins q a b) stops);
       }
+
+  pub leads-stops : Stops next f e end → Leads next f p end (f p) e
+  leads-stops s = first-run (λ q h l. s q h (omega arith))
 
   pub leads-parts : (a b : A) (t : Bool) → a ≡ f p → b ≡ f e → t ≡ next (on a (e - p - 1)) b → t ≡ false → Leads next f p end a e
   leads-parts a b t ha hb ht h = rw ha (first-run (λ q k l. at-end a b t ha hb ht q k ∙ h))

@@ -14,12 +14,11 @@ use Rattle.slices.specs.declared.Source.{Source}
 use Rattle.resolve.specs.Resolved.{sourceOf, OnTop, Resolved, Holds}
 use Rattle.resolve.specs.Sweep.{Lesser}
 use Rattle.resolve.proofs.Laws.Resolved.{resolved-next, resolved-front}
-use Rattle.runs.specs.Runs.{runs}
+use Rattle.runs.specs.Runs.{runs, Joins}
 use Rattle.views.specs.View.{next}
 use Rattle.views.specs.Inner.{viewFrom}
 use Rattle.runs.specs.Inner.{Unbroken}
 use Rattle.views.proofs.Laws.Next.{given-next}
-use Rattle.runs.specs.Runs.{Joins}
 use Rattle.views.proofs.Laws.Count.{unbroken-length}
 use Rattle.views.proofs.Laws.ViewFrom.{viewFrom-le, viewFrom-none}
 

@@ -7,16 +7,14 @@ use mathlib.Core.Bool.{Bool, true, false, _&&_, false≢true}
 use mathlib.Core.Logic.{_≢_}
 use mathlib.Core.List.{List, _++_, append-assoc}
 use lib.Dec.{eqb}
-use lib.ListN.{length, take, drop, length-append}
-use lib.Seq.{take-append-le, take-take, drop-at, length-take-le}
-use borrow.Author.Tests.{eq-eqb, ne-eqb, eqb-true}
+use lib.ListN.{length, length-append}
+use borrow.Author.Tests.{eqb-true}
 use Rattle.codec.specs.Fixed.{bigEndian}
 use Rattle.codec.specs.Splice.{splice}
 use Rattle.codec.proofs.Laws.Fixed.{length-bigEndian}
 use Rattle.codec.proofs.Laws.Splice.{splices-4, splice-before}
 use Rattle.slices.specs.Cover.{cover, given, isNothing}
 use Rattle.slices.specs.Limits.{recordSize}
-use Rattle.slices.specs.Passes.{Passes}
 use Rattle.slices.specs.Record.{recordAt, records, encode}
 use Rattle.slices.proofs.Laws.Cover.{given-zero, given-byte}
 use Rattle.slices.specs.declared.Record.{Record}

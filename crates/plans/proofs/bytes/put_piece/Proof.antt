@@ -1,5 +1,5 @@
 -- `plans::bytes::put_piece` meets its contract: the length, and before it what the record on top tells. Assumes nothing.
-use Prim.Native.Nat.{ℕ, _-_}
+use Prim.Native.Nat.{_-_}
 use native.Mathlib.Omega.{arith}
 use mathlib.Core.Path.{sym, ap, _∙_}
 use denote.Ref.{now}

@@ -1,7 +1,10 @@
 -- `plans::reach::same_block_to` meets its contract: in a segment the locations go on up to the end of the block. Assumes nothing.
-use Prim.Native.Nat.{suc, _-_, _+_}
+use Prim.Native.Nat.{_-_, _+_}
 use native.Mathlib.Omega.{arith}
-use mathlib.Core.Path.{_≡_, sym, _∙_}
+use mathlib.Core.Path.{sym, _∙_}
+use mathlib.Core.Bool.{false≢true}
+use mathlib.Core.Logic.{⊎-elim}
+use borrow.Author.Tests.{eq-eqb, eqb-true}
 use lib.ListN.{getD}
 use denote.Ref.{now}
 use Rattle.slices.specs.Cover.{cover}
@@ -11,7 +14,8 @@ use Rattle.resolve.proofs.Laws.Resolved.{resolved-at}
 use Rattle.runs.specs.Inner.{Unbroken}
 use Rattle.views.specs.View.{next}
 use Rattle.views.proofs.Laws.Segments.{segment-unbroken}
-use Rattle.plans.proofs.Laws.Tops.{Giving, top-giving, hole-on, byte-on}
+use Rattle.plans.proofs.Laws.Tops.{Giving, top-giving, hole-on, byte-on, block-stops}
+use Rattle.plans.proofs.Laws.Shifts.{shifts-some}
 use borrow.Author.Needs.{needs}
 use Rattle.plans.proofs.reach.same_block_to.Statement.{statement}
 use Rattle.plans.proofs.reach.same_block_to.Tie as tie
@@ -27,12 +31,12 @@ goes-on c =
     segment-unbroken _ _ _ _ (p .0 .resolved) _ _ _ _ (p .1 .0 .0) (p .1 .1) (c .until .ensures)
 
 -- the record that gives the position its byte
-giving : (c : tie.After-wide) → let a = c .before .before .before .before .before .before .before .before .args in
+giving : (c : tie.After-wide) → let a = c .before .before .before .before .before .before .before .before .before .args in
     Giving (now (a .list)) (getD (now (a .tops)) (a .k) 0) (a .p) (c .wide .result - 1)
 giving c =
     let told = c .before .before in
-    let start = c .before .before .before .before .before .before .before .before in
-    top-giving _ _ _ _ (start .pre .0 .pass) (on-top start) (λ e. c .before .if1 .left (told .id-on .ensures ∙ e)) (c .wide .ensures)
+    let start = c .before .before .before .before .before .before .before .before .before in
+    top-giving _ _ _ _ (start .pre .0 .pass) (on-top start) (λ e. false≢true (sym (c .before .if1 .left) ∙ told .is-none .ensures ∙ eq-eqb _ 0 (told .before .id-on .ensures ∙ e))) (c .wide .ensures)
 
 until-requires : tie.Need-until-requires
 until-requires c κs = search needs
@@ -46,11 +50,17 @@ shared-slice-read-top c = search needs
 id-on-requires : tie.Need-id-on-requires
 id-on-requires c κs = λ i e. on-top (c .before .before .before .before .before) .covering i e .0
 
+is-none-requires : tie.Need-is-none-requires
+is-none-requires c κs = search needs
+
 returns : tie.Need-returns
 returns c =
-    let start = c .before .before .before .before .before .before .before in
-    let until = c .before .before .before in
-    (hole-on _ _ _ _ (on-top start) (start .pre .0 .pass) (sym (c .before .id-on .ensures) ∙ c .if1 .taken) _ _ (goes-on until), until .until .ensures .left)
+    let start = c .before .before .before .before .before .before .before .before in
+    let until = c .before .before .before .before in
+    let told = c .before in
+    let z = eqb-true _ 0 (sym (told .is-none .ensures) ∙ c .if1 .taken) in
+    let u = until .until .ensures in
+    ((hole-on _ _ _ _ (on-top start) (start .pre .0 .pass) (sym (told .before .id-on .ensures) ∙ z) _ _ (goes-on until), u .left), (λ h q e l. absurd (⊎-elim (λ f. omega arith) (λ f. omega arith) (u .one))))
 
 wide-requires : tie.Need-wide-requires
 wide-requires c κs = search needs
@@ -64,11 +74,11 @@ off-in-requires c κs =
     (g .inside, (g .passes, (g .from, g .to)))
 
 sub-in-block : tie.Need-sub-in-block
-sub-in-block c = omega (arith, goes-on (c .before .before .before .before .before) .some)
+sub-in-block c = omega (arith, goes-on (c .before .before .before .before .before .before) .some)
 
 in-block-requires : tie.Need-in-block-requires
 in-block-requires c κs =
-    let until = c .before .before .before .before .before in
+    let until = c .before .before .before .before .before .before in
     (until .before .before .before .before .pre .1 .0 .1, omega (arith, goes-on until .some))
 
 add-result : tie.Need-add-result
@@ -77,11 +87,16 @@ add-result c = search needs
 returns-2 : tie.Need-returns-2
 returns-2 c =
     let wide = c .before .before in
-    let until = wide .before .before .before .before in
+    let until = wide .before .before .before .before .before in
     let start = until .before .before .before .before in
+    let a = start .args in
     let g = giving wide in
+    let u = goes-on until in
     let l = c .in-block .ensures in
-    (byte-on _ _ _ _ (on-top start) _ (g .is) (g .some) _ _ _ _ (goes-on until) (c .before .off-in .ensures) (l .0) (l .1) (l .2), omega (arith, l .1, goes-on until .some, until .until .ensures .left))
+    let b = until .until .ensures in (
+      (byte-on _ _ _ _ (on-top start) _ (g .is) (g .some) _ _ _ _ u (c .before .off-in .ensures) (l .0) (l .1) (l .2), omega (arith, l .1, u .some, b .left)),
+      block-stops (a .block) (now (a .list)) (now (a .marks)) (now (a .tops)) (a .m) (start .pre .0 .resolved) (a .k) (start .pre .1 .1) (shifts-some _ _ (start .pre .1 .0 .1)) _ (g .is) (g .some) _ _ _ b u (c .before .off-in .ensures) (l .0) (l .1) (l .3),
+    )
 
 pub same-block-to-spec : {M : Type 1} → statement M
 same-block-to-spec =
@@ -91,6 +106,7 @@ same-block-to-spec =
     mul-top
     shared-slice-read-top
     id-on-requires
+    is-none-requires
     returns
     wide-requires
     sub-off-in

@@ -1,6 +1,4 @@
 -- `plans::rooms::answer_in` meets its contract: nothing for no positions, else what the walk answers. Assumes nothing.
-use Prim.Native.Nat.{_-_}
-use native.Mathlib.Omega.{arith}
 use Rattle.plans.proofs.Laws.Rooms.{none-delivered}
 use borrow.Author.Needs.{needs}
 use Rattle.plans.proofs.rooms.answer_in.Statement.{statement}

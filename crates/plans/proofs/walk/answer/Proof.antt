@@ -1,13 +1,12 @@
 -- `plans::walk::answer` meets its contract: each answer is that of its case. Assumes nothing.
-use Prim.Native.Nat.{ℕ, _+_, _-_, _*_, _/_, _^_, _≤_}
+use Prim.Native.Nat.{_-_, _≤_}
 use native.Mathlib.Omega.{arith}
-use mathlib.Core.Path.{sym, ap}
 use mathlib.Core.Bool.{false≢true}
 use denote.Ref.{now}
 use lib.ListN.{length}
 use Rattle.slices.specs.Record.{records}
 use Rattle.resolve.proofs.Laws.Resolved.{resolved-few}
-use Rattle.plans.specs.Piece.{pieceSize, encodePieces}
+use Rattle.plans.specs.Piece.{encodePieces}
 use Rattle.plans.specs.Plan.{pieces}
 use Rattle.plans.proofs.Laws.Few.{plan-room}
 use Rattle.plans.proofs.Laws.Rooms.{delivered-room, counted-short, counted-done}

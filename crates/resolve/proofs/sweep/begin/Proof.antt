@@ -1,19 +1,15 @@
 -- `resolve::sweep::begin` meets its contract. The invariant: what it is to have done, up to k. Assumes nothing.
-use Prim.Native.Nat.{ℕ, _-_, _<_, _≤_}
+use Prim.Native.Nat.{ℕ, _-_, _<_}
 use native.Mathlib.Omega.{arith}
-use mathlib.Core.Path.{_≡_, refl, sym, ap, _∙_}
-use lib.ListN.{length, getD}
+use mathlib.Core.Path.{refl, sym, ap, _∙_}
+use lib.ListN.{getD}
 use borrow.Author.Needs.{needs}
 use Rattle.slices.specs.Limits.{chunk}
 use Rattle.resolve.specs.Set.{Summed}
-use Rattle.resolve.specs.Sweep.{Begun, Next}
+use Rattle.resolve.specs.Sweep.{Begun}
 use Rattle.resolve.proofs.Laws.Sweep.{begun-start, begun-more}
 use Rattle.resolve.proofs.sweep.begin.Statement.{statement}
 use Rattle.resolve.proofs.sweep.begin.Tie as tie
-use Rattle.resolve.proofs.sweep.begin.Reads as reads
-use Rattle.resolve.proofs.sweep.begin.Lts as lts
-use Rattle.resolve.proofs.set.put.Reads as put-reads
-use Rattle.resolve.proofs.tops.wide.Reads as wide-reads
 
 abbrev Inv-loop : tie.InvT-loop
 Inv-loop pos order n q from sum0 words₀ sum₀ k₀ words sum k = Summed words sum × Begun pos order n q words₀ words from k

@@ -1,5 +1,5 @@
 -- `views::walk::answer` meets its contract: each answer is that of its case. Assumes nothing.
-use mathlib.Core.Bool.{true, false, false≢true}
+use mathlib.Core.Bool.{false≢true}
 use Rattle.views.proofs.Laws.Rooms.{roomy-fits, roomy-answers, counted-long, counted-short, counted-done}
 use borrow.Author.Needs.{needs}
 use Rattle.views.proofs.walk.answer.Statement.{statement}
