@@ -161,9 +161,10 @@ ezk_answer ezk_view(const uint8_t *list, size_t list_len, uint64_t chunk_len,
  * view, and holds the positions pos up to, but without, pos + len. A view is written once and
  * can be sought in often.
  *
- * view is what ezk_view wrote, and segments the number of its segments, ezk_view's count / 24.
- * view_len is that count. Bytes behind the last of these segments are not looked at, so it may
- * also be the length of the whole buffer, if this is a multiple of 24.
+ * The bytes that ezk_view wrote are the loaded row, and nothing else has to be loaded: view is
+ * what ezk_view wrote, and segments the number of its segments, ezk_view's count / 24. view_len
+ * is that count. Bytes behind the last of these segments are not looked at, so it may also be
+ * the length of the whole buffer, if this is a multiple of 24.
  *
  * found is 1 if a segment is found: segment is its number from 0, and pos, id, size, off and
  * len are the numbers of its record, where id 0 means what it means in a view. With another id
