@@ -15,7 +15,7 @@ use Rattle.views.specs.Calls.{viewRows}
 use Rattle.seeking.specs.declared.Loaded.{Loaded}
 use Rattle.seeking.specs.declared.Loaded.the-variants.{Segments, Refused}
 
--- 12: the row has fewer elements than the view has segments
+-- the row has fewer elements than the view has segments
 unfoldable pub rowTooShort : List ℕ → ℕ → ℕ → Bool
 rowTooShort bs l rows = ltb rows (length (view (records bs) l))
 
