@@ -88,6 +88,7 @@ pub(crate) fn reach(
     let mut segment = k;
     let mut e = same_block_to(list, marks, tops, m, k, p, end, block, bits);
     while e < end {
+        // A block ends inside the segment: no piece goes on there.
         if e < marks[segment + 1] {
             return Reached { end: e, segment };
         }
