@@ -31,9 +31,9 @@ pub struct ezk_found {
     pub segment: u64,
     /// Its position in the chunk.
     pub pos: u64,
-    /// Its slice.
+    /// Its slice; 0 for zeros and for uncovered bytes.
     pub id: u64,
-    /// Size of the whole slice.
+    /// Size of the whole slice; for id 0, 0 for zeros, else its own length.
     pub size: u64,
     /// Offset of its first byte in the slice.
     pub off: u64,

@@ -11,10 +11,12 @@ use ezumokarin::*;
 const STATED: usize = 96 * 1_024;
 const BLOCK: u64 = 65_536;
 
-/// Ids that fall, so that the check has to search for two sizes.
+/// Ids that fall, so that the check has to search for two sizes, and positions in no order, so that
+/// they have to be sorted.
 #[test]
 fn every_call_in_the_stated_stack() {
-    let rows: Vec<_> = (0..2_048).map(|i| (2 * i + 1, 5_000 - u64::from(i), 1, 0, 1)).collect();
+    let rows: Vec<_> =
+        (0..2_048).map(|i| (2 * (i * 1_151 % 2_048) + 1, 5_000 - u64::from(i), 1, 0, 1)).collect();
     let list = list(&rows);
     let (mut out, mut new_list) = (vec![0; 200_000], vec![0; 49_152]);
     let calls = move || {

@@ -5,7 +5,8 @@ use native.Mathlib.Omega.{arith}
 use native.Mathlib.Nat.{add-zero}
 use mathlib.Core.Path.{_≡_, sym, ap, _∙_}
 use mathlib.Core.List.{List}
-use lib.ListN.{length, take, getD}
+use lib.ListN.{length, take, getD, length-take}
+use lib.Seq.{getD-take}
 use Rattle.codec.specs.All.{All, Bytes}
 use Rattle.codec.specs.Groups.{groupsFrom}
 use Rattle.outcomes.specs.Outcome.{done}
@@ -16,6 +17,7 @@ use Rattle.slices.specs.Limits.{recordSize, chunk}
 use Rattle.slices.specs.Passes.{Passes}
 use Rattle.slices.specs.Record.{decode, recordAt, recordsFrom, count, records}
 use Rattle.slices.proofs.Laws.Record.{length-encodeAll, length-records}
+use Rattle.slices.proofs.Laws.Firsts.{firsts-records}
 use Rattle.slices.specs.declared.Record.{Record}
 use Rattle.views.specs.View.{view}
 use Rattle.views.specs.Calls.{viewBytes, viewOutcome}
@@ -77,3 +79,27 @@ module _ (bs : List ℕ) (b : Bytes bs) where
   view-wrote-finds l before after n a =
       let w = view-wrote bs b l before after n a in
       rw (w .2 .front, w .2 .counted) (view-finds (w .0 .pass) l (w .1))
+
+  -- of the whole buffer: what stands behind the view's segments is not looked at
+  pub view-buffer-finds : (l : ℕ) (before after : List ℕ) (n : ℕ) → Answers (viewOutcome bs l (length before)) before (Wrote n) after
+      → Bytes after → length after % recordSize ≡ 0 → FindsIn after (n / recordSize) l
+  unfolding count
+  view-buffer-finds l before after n a ba h =
+      let w = view-wrote bs b l before after n a in
+      let c = counted (w .0 .pass) l (w .1) in
+      let e = w .2 .counted in
+      let k : length (view (records bs) l) ≡ n / recordSize = sym c ∙ ap (λ (x : ℕ). x / recordSize) (sym e) in
+      let m : n ≡ n / recordSize * recordSize = omega (arith, e, whole (w .0 .pass) l (w .1)) in
+      let t : length (take n after) ≡ n = ap length (w .2 .front) ∙ sym e in
+      let i : n / recordSize ≤ count after = omega (arith, t, length-take n after) in
+      let r : take (n / recordSize) (records after) ≡ view (records bs) l =
+      sym (firsts-records after ba h (n / recordSize) i) ∙ ap records (ap (λ (x : ℕ). take x after) (sym m) ∙ w .2 .front) ∙ view-back bs b (w .0 .pass) l (w .1) in
+      let says : (j : ℕ) → j < length (view (records bs) l) → recordAt after j ≡ getD (view (records bs) l) j noSegment =
+      λ j g. record-is after j (omega (arith, k)) ∙ sym (getD-take (n / recordSize) (records after) j noSegment (omega (arith, k)))
+      ∙ ap (λ (rs : List Record). getD rs j noSegment) r in
+      let q : min (n / recordSize) (count after) ≡ n / recordSize = omega arith in
+      record {
+        found = seek (recordAt after) (n / recordSize);
+        answers = λ p. view-whole after (n / recordSize) p h ∙ rw q;
+        finds = rw k at (loaded-finds (records bs) l (recordAt after) says);
+      }

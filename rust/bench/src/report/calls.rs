@@ -100,7 +100,7 @@ pub fn fits(rows: &[Row]) -> String {
         let fits = ratios(rows, call, records, Who::Fits, Who::Now);
         vec![call.into(), thousands(records), Spread::median(&fits), Spread::worst(&fits)]
     };
-    let calls = [VIEW, TIDY, PLAN, SMALL_PLAN];
+    let calls = [VIEW, TIDY, PLAN, SMALL_PLAN, COMPACT];
     let lines = calls.iter().flat_map(|call| SIZES.map(|records| line(call, records)));
     table(&head, "wnnw", lines.collect())
 }

@@ -51,7 +51,7 @@ fn limits(rows: &[Row]) -> Vec<Limit> {
         best(COMPACT, &[200, 2_000], 1.4),
     ];
     limits.extend([VIEW, TIDY, PLAN, SMALL_PLAN, COMPACT].map(|call| growth(rows, call)));
-    limits.extend([VIEW, TIDY, PLAN, SMALL_PLAN].map(|call| fits(rows, call)));
+    limits.extend([VIEW, TIDY, PLAN, SMALL_PLAN, COMPACT].map(|call| fits(rows, call)));
     limits
 }
 

@@ -70,9 +70,7 @@ fn row(
     }
     let mut programs: Vec<(Who, Program<Input>)> =
         writers.into_iter().map(|(who, write)| (who, spare(write))).collect();
-    if !matches!(call, Call::Compact) {
-        programs.push((Who::Fits, fitting(by_library(NOW, call))));
-    }
+    programs.push((Who::Fits, fitting(by_library(NOW, call))));
     Ok(Some(Row::timed((name, shape.name, records), &inputs, programs)))
 }
 
