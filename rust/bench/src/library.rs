@@ -116,29 +116,11 @@ fn counted(answer: ezk_answer) -> Option<usize> {
     (answer.refusal == 0).then_some(answer.count as usize)
 }
 
-/// What `ezk_find` returns, as the header gives it.
-#[repr(C)]
-struct ezk_found {
-    refusal: u64,
-    place: u64,
-    found: u64,
-    segment: u64,
-    pos: u64,
-    id: u64,
-    size: u64,
-    off: u64,
-    len: u64,
-}
-
-extern "C" {
-    fn ezk_find(view: In, view_len: usize, segments: u64, position: u64) -> ezk_found;
-}
-
 /// Seeks in the bytes of a view; all of them are segments.
 #[inline]
 pub fn find(view: &[u8], position: u32) -> Found {
     let segments = (view.len() / crate::record::RECORD) as u64;
-    let f = unsafe { ezk_find(view.as_ptr(), view.len(), segments, position.into()) };
+    let f = unsafe { sys::ezk_find(view.as_ptr(), view.len(), segments, position.into()) };
     let (pos, id, size) = (f.pos as u32, f.id, f.size as u32);
     let segment = Record { pos, id, size, off: f.off as u32, len: f.len as u32 };
     (f.refusal == 0 && f.found == 1).then_some((f.segment as usize, segment))
