@@ -42,7 +42,7 @@ partFor (done true) older newer = newer
 unfoldable pub addedPart : List ℕ → List ℕ → List ℕ
 addedPart older newer = partFor (historyOutcome older newer) older newer
 
--- a list that is the older one with more behind it
-pub record Continues (older newer : List ℕ) : Type 0 where
-  pub rest : List ℕ
+-- a list that is the older one with more behind it: bytes, or records
+pub record Continues {A : Type 0} (older newer : List A) : Type 0 where
+  pub rest : List A
   pub whole : older ++ rest ≡ newer

@@ -89,7 +89,7 @@ module _ (xs ys : List ℕ) (i j : ℕ) (inv : begins xs ys ≡ begins (drop i x
 
 -- ---- what it means
 
-begins-rest : (xs ys : List ℕ) → begins xs ys ≡ true → xs ++ drop (length xs) ys ≡ ys
+pub begins-rest : (xs ys : List ℕ) → begins xs ys ≡ true → xs ++ drop (length xs) ys ≡ ys
 unfolding begins
 begins-rest [] ys h = refl
 begins-rest (x ∷ xs) [] h = absurd (false≢true h)

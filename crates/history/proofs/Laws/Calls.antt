@@ -7,15 +7,15 @@ use mathlib.Core.Bool.{Bool, true, false, not, false≢true}
 use mathlib.Core.Logic.{_↔_}
 use mathlib.Core.List.{List, []}
 use lib.ListN.{length, drop}
-use Rattle.outcomes.specs.Outcome.{Outcome, refused, done, firstOf, NoneHolds, Given}
+use Rattle.outcomes.specs.Outcome.{Outcome, refused, done, NoneHolds, Given}
 use Rattle.outcomes.specs.Answers.{answerOf}
 use Rattle.outcomes.proofs.Laws.Outcome.{done-none, done-is, refused-exactly, answered-exactly}
-use Rattle.codec.proofs.Laws.All.{all-left, all-right}
+use Rattle.codec.proofs.Laws.All.{all-left, all-right, all-append}
 use Rattle.slices.specs.Accepts.{Accepts}
 use Rattle.slices.specs.Refusals.{listRows, checkOutcome, checked}
-use Rattle.slices.proofs.Laws.Refusals.{list-stops, list-lets, check-stops, check-lets, none-accepts}
-use Rattle.history.specs.History.{begins, historyRows, historyOutcome, yesNo, told, partFor, addedPart}
-use Rattle.history.proofs.Laws.Begins.{begins-longer}
+use Rattle.slices.proofs.Laws.Refusals.{list-stops, list-lets, check-stops, check-lets, none-accepts, accepted-exactly, check-answered-exactly}
+use Rattle.history.specs.History.{begins, historyRows, historyOutcome, yesNo, told, partFor, addedPart, Continues}
+use Rattle.history.proofs.Laws.Begins.{begins-longer, begins-exactly}
 use Rattle.outcomes.specs.declared.Refusal.{Refusal}
 use Rattle.slices.specs.declared.Checked.the-variants as check
 use Rattle.history.specs.declared.WasRewritten.the-variants.{No, Yes, Refused}
@@ -86,9 +86,9 @@ module _ (older newer : List ℕ) where
     unfolding historyOutcome
     history-says = done-is (not (begins older newer)) (historyRows older newer) t h
 
-  -- ---- the part
+  -- ---- what follows
 
-  no-begins : historyOutcome older newer ≡ done false → begins older newer ≡ true
+  pub no-begins : historyOutcome older newer ≡ done false → begins older newer ≡ true
   no-begins h = go (begins older newer) refl
     where
       go : (t : Bool) → begins older newer ≡ t → begins older newer ≡ true
@@ -101,6 +101,34 @@ module _ (older newer : List ℕ) where
       go : Dec (length newer < length older) → length older ≤ length newer
       go (yes l) = absurd (false≢true (sym (begins-longer older newer l) ∙ no-begins (told-no _ h)))
       go (no l) = omega arith
+
+  -- "where the older is a beginning of the newer": exactly then the list was not rewritten
+  accepted-says : Accepts older → Accepts newer → historyOutcome older newer ≡ done (not (begins older newer))
+  unfolding historyRows
+  accepted-says a n = history-answered-exactly .1 (all-append _ (listRows older) (listRows newer) (accepts-none older a) (accepts-none newer n))
+    where
+      accepts-none : (bs : List ℕ) → Accepts bs → NoneHolds (listRows bs)
+      accepts-none bs b = check-answered-exactly bs .0 (accepted-exactly bs .1 b)
+
+  pub no-exactly : (historyOutcome older newer ≡ done false) ↔ (Accepts older × Accepts newer × Continues older newer)
+  no-exactly = (
+    (λ h. let a = history-accepts false h in (a .0, a .1, begins-exactly older newer .0 (no-begins h))),
+    (λ h. accepted-says (h .0) (h .1) ∙ ap (λ (t : Bool). done (not t)) (begins-exactly older newer .1 (h .2))),
+  )
+
+  pub yes-exactly : (historyOutcome older newer ≡ done true) ↔ (Accepts older × Accepts newer × (Continues older newer → ⊥))
+  yes-exactly = (
+    (λ h.
+        let a = history-accepts true h in
+        (a .0, a .1, λ c. false≢true (sym (ap not (begins-exactly older newer .1 c)) ∙ sym (history-says true h)))),
+    (λ h. accepted-says (h .0) (h .1) ∙ ap (λ (t : Bool). done (not t)) (differs (begins older newer) refl (h .2))),
+  )
+    where
+      differs : (t : Bool) → begins older newer ≡ t → (Continues older newer → ⊥) → begins older newer ≡ false
+      differs true e f = absurd (f (begins-exactly older newer .0 e))
+      differs false e f = e
+
+  -- ---- the part, by the answer
 
   pub part-no : told (historyOutcome older newer) ≡ No → addedPart older newer ≡ drop (length older) newer
   unfolding addedPart partFor

@@ -4,7 +4,6 @@ use mathlib.Core.Bool.{not}
 use denote.Ref.{now}
 use Rattle.slices.specs.Refusals.{checkOutcome, checked}
 use Rattle.slices.specs.declared.Checked.the-variants.{Accepted}
-use Rattle.history.specs.History.{told}
 use Rattle.history.proofs.Laws.Calls.{told-of-refused, told-of-done, history-older, history-newer, history-both}
 use borrow.Author.Needs.{needs}
 use Rattle.history.proofs.rewritten.Statement.{statement}

@@ -1,4 +1,5 @@
--- The first k records of a list as a part of its bytes, and the remaining records as the rest of them. Assumes nothing.
+-- Parts of a list: lists one after the other, the first k records as a part of the bytes, and the remaining records as the rest of them.
+-- Assumes nothing.
 use Prim.Native.Nat.{ℕ, _*_, _%_, _≤_}
 use native.Mathlib.Omega.{arith}
 use mathlib.Core.Path.{_≡_, refl, sym, ap, _∙_}
@@ -9,7 +10,7 @@ use Rattle.codec.specs.All.{All, Bytes}
 use Rattle.slices.specs.Limits.{recordSize}
 use Rattle.slices.specs.Record.{encode, encodeAll, recordAt, count, records, Fits}
 use Rattle.slices.proofs.Laws.Record.{length-encodeAll, records-back, records-forth, records-all, decode-fits, length-records}
-use Rattle.codec.proofs.Laws.All.{all-take}
+use Rattle.codec.proofs.Laws.All.{all-take, all-append}
 use Rattle.slices.specs.declared.Record.{Record}
 
 -- the bytes of two lists, one after the other
@@ -22,6 +23,13 @@ encode-append (r ∷ xs) ys = ap (λ (bs : List ℕ). encode r ++ bs) (encode-ap
 pub records-fit : (bs : List ℕ) → Bytes bs → All Fits (records bs)
 unfolding recordAt
 records-fit bs b = records-all Fits bs (λ j l. decode-fits bs _ b)
+
+-- the records of two lists of whole records, one after the other
+pub records-append : (xs ys : List ℕ) → Bytes xs → Bytes ys → length xs % recordSize ≡ 0 → length ys % recordSize ≡ 0 → records (xs ++ ys) ≡ records xs ++ records ys
+records-append xs ys a b h k =
+    let rs = records xs ++ records ys in
+    let e : encodeAll rs ≡ xs ++ ys = encode-append (records xs) (records ys) ∙ rw (records-forth xs a h, records-forth ys b k) in
+    ap records (sym e) ∙ records-back rs (all-append Fits (records xs) (records ys) (records-fit xs a) (records-fit ys b))
 
 module _ (bs : List ℕ) (b : Bytes bs) (whole : length bs % recordSize ≡ 0) (k : ℕ) (h : k ≤ count bs) where
   parts : encodeAll (take k (records bs)) ++ encodeAll (drop k (records bs)) ≡ bs

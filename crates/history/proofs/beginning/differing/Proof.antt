@@ -1,8 +1,7 @@
 -- `history::beginning::differing` meets its contract: once two bytes differ, it is told from then on. Assumes nothing.
 use lib.Dec.{eqb}
 use borrow.Author.Tests.{eq-eqb, ne-eqb}
-use mathlib.Core.Path.{sym, _∙_}
-use native.Mathlib.Omega.{arith}
+use mathlib.Core.Path.{sym}
 use Rattle.history.proofs.Laws.Begins.{and-false, and-true}
 use Rattle.history.proofs.beginning.differing.Statement.{statement}
 use Rattle.history.proofs.beginning.differing.Tie as tie

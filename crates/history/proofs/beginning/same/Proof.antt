@@ -1,5 +1,5 @@
 -- `history::beginning::same` meets its contract. The invariant: what was compared did not differ, and the rest begins the rest. Assumes nothing.
-use Prim.Native.Nat.{_-_, _≤_}
+use Prim.Native.Nat.{_-_}
 use mathlib.Core.Path.{_≡_, refl}
 use mathlib.Core.Bool.{_&&_}
 use native.Mathlib.Omega.{arith}
