@@ -1,13 +1,22 @@
 -- A call's answer as numbers is its outcome's. Assumes nothing.
-use Prim.Native.Nat.{ℕ}
+use Prim.Native.Nat.{ℕ, _-_, _≤_}
+use native.Mathlib.Omega.{arith}
+use native.Mathlib.Nat.{sub-self}
 use mathlib.Core.Path.{_≡_, refl}
+use mathlib.Core.Bool.{Bool, true, false}
 use mathlib.Core.List.{List}
 use Rattle.outcomes.specs.Outcome.{Outcome, refused, done}
 use Rattle.outcomes.specs.Answers.{answer, answerOf}
 use Rattle.slices.specs.Refusals.{checked}
-use lib.ListN.{length}
+use lib.ListN.{length, take, drop, length-drop}
+use lib.Seq.{take-all}
+use Rattle.codec.proofs.Laws.All.{rest-whole}
 use Rattle.compaction.specs.Calls.{Both, compactAnswer}
 use Rattle.ezumokarin.specs.Compact.{wroteBoth, plainCompacted}
+use Rattle.history.specs.History.{historyOutcome, told, partFor, addedPart}
+use Rattle.history.proofs.Laws.Calls.{no-shorter}
+use Rattle.history.specs.declared.WasRewritten.the-variants.{No}
+use Rattle.ezumokarin.specs.Changes.{partIn, plainPart}
 use Rattle.keys.specs.Keys.{Chunk as ChunkOf, chunkAnswer}
 use Rattle.names.specs.Names.{Object as ObjectOf, Full, objectAnswer, fullAnswer, volumePart}
 use Rattle.ezumokarin.specs.Names.{objectRead, fullRead, chunkRead, plainObject, plainChunk}
@@ -56,3 +65,30 @@ pub plain-sought : (o : Outcome FoundOf) → plainSought (sought o) ≡ foundIn 
 unfolding plainSought answerOf foundIn
 plain-sought (refused r) = refl
 plain-sought (done f) = refl
+
+-- ---- what is new
+
+module _ (older newer : List ℕ) where
+  pub plain-part : plainPart (told (historyOutcome older newer)) (length newer - length (addedPart older newer)) (length (addedPart older newer))
+      ≡ partIn (historyOutcome older newer) (length older) (length newer)
+  unfolding addedPart partFor plainPart answerOf partIn
+  plain-part = go (historyOutcome older newer) (no-shorter older newer)
+    where
+      go : (o : Outcome Bool) → (told o ≡ No → length older ≤ length newer)
+          → plainPart (told o) (length newer - length (partFor o older newer)) (length (partFor o older newer)) ≡ partIn o (length older) (length newer)
+      go (refused r) h = refl
+      go (done true) h = rw sub-self
+      go (done false) h =
+          let l = h refl in
+          let e : length newer - (length newer - length older) ≡ length older = omega arith in
+          simp (length-drop, e)
+
+  -- the offset and the length are those of the part that `added` hands back
+  pub part-stands : let p = partIn (historyOutcome older newer) (length older) (length newer) in take (p .length) (drop (p .offset) newer) ≡ addedPart older newer
+  unfolding addedPart partFor partIn
+  part-stands = go (historyOutcome older newer)
+    where
+      go : (o : Outcome Bool) → let p = partIn o (length older) (length newer) in take (p .length) (drop (p .offset) newer) ≡ partFor o older newer
+      go (refused r) = refl
+      go (done true) = take-all (length newer) newer (omega arith)
+      go (done false) = rest-whole newer (length older)

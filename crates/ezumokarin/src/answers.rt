@@ -3,8 +3,10 @@ use crate::Chunk;
 use crate::Compact;
 use crate::Found;
 use crate::Object;
+use crate::Part;
 use crate::Plain;
 use compaction::Compacted;
+use history::WasRewritten;
 use keys::ChunkKey;
 use names::ObjectName;
 use outcomes::Answer;
@@ -12,6 +14,7 @@ use seeking::Sought;
 use slices::Checked;
 use slices::Record;
 ghost use mathlib.Core.Path.{_≡_};
+ghost use Rattle.ezumokarin.specs.Changes.{plainPart};
 ghost use Rattle.ezumokarin.specs.Compact.{plainCompacted};
 ghost use Rattle.ezumokarin.specs.Names.{plainObject, plainChunk};
 ghost use Rattle.ezumokarin.specs.Plain.{plainChecked, plainAnswer};
@@ -162,5 +165,34 @@ pub(crate) fn of_sought(s: Sought) -> Found
     match s {
         Sought::Looked(f) => of_found(f),
         Sought::Refused(r) => no_segment(r.number as u64, r.place as u64),
+    }
+}
+
+// Whether a list was rewritten, with the place of the part and its length.
+pub(crate) fn of_rewritten(w: WasRewritten, offset: u64, length: u64) -> Part
+    ensures { λ r. ⌜ r ≡ plainPart w offset length ⌝ }
+{
+    match w {
+        WasRewritten::No => Part {
+            refusal: 0,
+            place: 0,
+            rewritten: 0,
+            offset,
+            length,
+        },
+        WasRewritten::Yes => Part {
+            refusal: 0,
+            place: 0,
+            rewritten: 1,
+            offset,
+            length,
+        },
+        WasRewritten::Refused(r) => Part {
+            refusal: r.number as u64,
+            place: r.place as u64,
+            rewritten: 0,
+            offset: 0,
+            length: 0,
+        },
     }
 }

@@ -1,6 +1,7 @@
 // The C interface: each call under a C name, with its answer as a struct of numbers. On success `refusal` is 0; a field without
 // meaning is 0.
 mod answers;
+mod changes;
 mod compacting;
 mod lists;
 mod naming;
@@ -56,4 +57,14 @@ pub struct Found {
     pub size: u64,
     pub off: u64,
     pub len: u64,
+}
+
+// What is new in a list: `rewritten` is 1 where it was rewritten; `offset` and `length` are the part of the newer list.
+#[repr(C)]
+pub struct Part {
+    pub refusal: u64,
+    pub place: u64,
+    pub rewritten: u64,
+    pub offset: u64,
+    pub length: u64,
 }

@@ -6,7 +6,7 @@ use mathlib.Core.Path.{_≡_, refl, sym, ap, _∙_}
 use mathlib.Core.Bool.{Bool, true, false, not, false≢true}
 use mathlib.Core.Logic.{_↔_}
 use mathlib.Core.List.{List, []}
-use lib.ListN.{length, drop}
+use lib.ListN.{length, drop, length-drop}
 use Rattle.outcomes.specs.Outcome.{Outcome, refused, done, NoneHolds, Given}
 use Rattle.outcomes.specs.Answers.{answerOf}
 use Rattle.outcomes.proofs.Laws.Outcome.{done-none, done-is, refused-exactly, answered-exactly}
@@ -141,3 +141,13 @@ module _ (older newer : List ℕ) where
   pub part-refused : (r : Refusal) → told (historyOutcome older newer) ≡ Refused r → addedPart older newer ≡ []
   unfolding addedPart partFor
   part-refused r h = rw (told-refused _ r h)
+
+  -- it is no longer than the newer list
+  pub part-fits : length (addedPart older newer) ≤ length newer
+  unfolding addedPart partFor
+  part-fits = go (historyOutcome older newer)
+    where
+      go : (o : Outcome Bool) → length (partFor o older newer) ≤ length newer
+      go (refused r) = omega arith
+      go (done true) = omega arith
+      go (done false) = rw length-drop (omega arith)
