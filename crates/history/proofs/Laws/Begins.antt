@@ -14,6 +14,7 @@ use borrow.Author.Tests.{eqb-true, eq-eqb}
 use Rattle.codec.proofs.Laws.All.{rest-whole}
 use Rattle.codec.proofs.Laws.Bools.{and-both}
 use Rattle.history.specs.History.{begins, Continues}
+use Rattle.history.specs.Inner.{UpTo}
 
 pub and-false : (t : Bool) → (t && false) ≡ false
 and-false true = refl
@@ -72,20 +73,21 @@ begins-cut (suc k) (x ∷ xs) (y ∷ ys) h =
     ap (λ (t : Bool). eqb x y && t) (begins-cut k xs ys (omega arith))
     ∙ and-assoc (eqb x y) (begins (take k xs) ys) (begins (drop k xs) (drop k ys))
 
--- a part that was compared, from i up to j, and what is behind it
-module _ (xs ys : List ℕ) (i j : ℕ) (inv : begins xs ys ≡ begins (drop i xs) (drop i ys)) (h : i ≤ j) (k : j ≤ length ys) (t : Bool)
-    (same : t ≡ begins (take (j - i) (drop i xs)) (take (length ys - i) (drop i ys))) where
-  parts : begins xs ys ≡ (t && begins (drop j xs) (drop j ys))
-  parts =
-      let e : i + (j - i) ≡ j = omega arith in
-      let s : t ≡ begins (take (j - i) (drop i xs)) (drop i ys) = rw rest-whole at same in
-      inv ∙ begins-cut (j - i) (drop i xs) (drop i ys) (rw length-drop (omega arith)) ∙ simp (drop-drop, e, s)
+-- a part that was compared, from i up to j
+pub part-up-to : (xs ys : List ℕ) (i j : ℕ) → i ≤ j → j ≤ length xs → length xs ≤ length ys → (t : Bool)
+    → t ≡ begins (take (j - i) (drop i xs)) (take (length ys - i) (drop i ys)) → UpTo xs ys i j t
+part-up-to xs ys i j h k l t same =
+    let e : i + (j - i) ≡ j = omega arith in
+    let s : t ≡ begins (take (j - i) (drop i xs)) (drop i ys) = rw rest-whole at same in
+    begins-cut (j - i) (drop i xs) (drop i ys) (rw length-drop (omega arith)) ∙ simp (drop-drop, e, s)
 
-  pub part-same : t ≡ true → begins xs ys ≡ begins (drop j xs) (drop j ys)
-  part-same e = parts ∙ rw e
+-- the same up to i, and then up to j; or they differ somewhere
+module _ (xs ys : List ℕ) (g i j : ℕ) (t : Bool) (a : UpTo xs ys g i true) (b : UpTo xs ys i j t) where
+  pub up-to-more : t ≡ true → UpTo xs ys g j true
+  up-to-more e = a ∙ b ∙ rw e
 
-  pub part-differs : t ≡ false → false ≡ begins xs ys
-  part-differs e = sym (parts ∙ rw e)
+  pub up-to-differs : t ≡ false → (k : ℕ) → UpTo xs ys g k false
+  up-to-differs e k = a ∙ b ∙ rw e
 
 -- ---- what it means
 

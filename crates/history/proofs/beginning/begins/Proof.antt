@@ -1,26 +1,40 @@
 -- `history::beginning::begins` meets its contract. The invariant: what was compared is the same, so the rest decides. Assumes nothing.
 use Prim.Native.Nat.{_-_, _≤_}
-use mathlib.Core.Path.{_≡_, refl, sym, _∙_}
+use mathlib.Core.Path.{sym, _∙_}
+use mathlib.Core.Bool.{true}
 use native.Mathlib.Omega.{arith}
+use borrow.Author.Tests.{not-true, not-false}
 use lib.ListN.{drop, length-take, length-drop}
 use denote.Ref.{now}
 use borrow.Author.Needs.{needs}
-use Rattle.history.specs.History.{begins}
-use Rattle.history.proofs.Laws.Begins.{begins-longer, begins-end, part-same, part-differs}
+use Rattle.history.specs.Inner.{UpTo}
+use Rattle.history.proofs.Laws.Begins.{begins-longer, begins-end, part-up-to, up-to-more, up-to-differs}
 use Rattle.history.proofs.beginning.begins.Statement.{statement}
 use Rattle.history.proofs.beginning.begins.Tie as tie
 
 abbrev Inv-loop : tie.InvT-loop
-Inv-loop older newer n i₀ i = (begins older newer ≡ begins (drop i older) (drop i newer)) × (i ≤ n)
+Inv-loop older newer n m i₀ i = UpTo older newer 0 i true × (i ≤ n)
 
 abbrev μ-loop : tie.MeasureT-loop
-μ-loop older newer n i₀ i = n - i
+μ-loop older newer n m i₀ i = n - i
 
 returns : tie.Need-returns Inv-loop μ-loop
 returns c = let a = c .before .before .before .args in sym (begins-longer (now (a .older)) (now (a .newer)) (c .if1 .taken))
 
+few-requires : tie.Need-few-requires Inv-loop μ-loop
+few-requires c κs = search needs
+
+first-same-requires : tie.Need-first-same-requires Inv-loop μ-loop
+first-same-requires c κs = search needs
+
+returns-2 : tie.Need-returns-2 Inv-loop μ-loop
+returns-2 c = sym (c .before .first-same .ensures ∙ rw (not-true (c .before .first-same .result) (c .if2 .taken)))
+
+mul-i : tie.Need-mul-i Inv-loop μ-loop
+mul-i c = search needs
+
 loop-holds : tie.Need-loop-holds Inv-loop μ-loop
-loop-holds c = (refl, omega arith)
+loop-holds c = (c .before .first-same .ensures ∙ rw (not-false (c .before .first-same .result) (c .if2 .left)), omega (arith, c .before .before .few .ensures))
 
 next-end-requires : tie.Need-next-end-requires Inv-loop μ-loop
 next-end-requires c κs = search needs
@@ -53,20 +67,26 @@ loop-again : tie.Need-loop-again Inv-loop μ-loop
 loop-again c =
     let end = c .before .before .before .before .next-end in
     let l = c .before .before .before .before .before .before in
-    let a = l .before .before .before .before .args in
-    (part-same (now (a .older)) (now (a .newer)) (l .loop .i) (end .result) (l .loop .inv .0) (omega (arith, end .ensures .0)) (omega (arith, end .ensures .1)) (c .before .same .result) (c .before .same .ensures) (c .if2 .taken), end .ensures .1)
-
-returns-2 : tie.Need-returns-2 Inv-loop μ-loop
-returns-2 c =
-    let end = c .before .before .before .before .next-end in
-    let l = c .before .before .before .before .before .before in
-    let a = l .before .before .before .before .args in
-    part-differs (now (a .older)) (now (a .newer)) (l .loop .i) (end .result) (l .loop .inv .0) (omega (arith, end .ensures .0)) (omega (arith, end .ensures .1)) (c .before .same .result) (c .before .same .ensures) (c .if2 .left)
+    let a = l .before .before .before .before .before .before .before .args in
+    let o = now (a .older) in
+    let n = now (a .newer) in
+    let b = part-up-to o n (l .loop .i) (end .result) (omega (arith, end .ensures .0)) (end .ensures .1) (omega arith) (c .before .same .result) (c .before .same .ensures) in
+    (up-to-more o n 0 (l .loop .i) (end .result) _ (l .loop .inv .0) b (c .if3 .taken), end .ensures .1)
 
 returns-3 : tie.Need-returns-3 Inv-loop μ-loop
 returns-3 c =
+    let end = c .before .before .before .before .next-end in
+    let l = c .before .before .before .before .before .before in
+    let a = l .before .before .before .before .before .before .before .args in
+    let o = now (a .older) in
+    let n = now (a .newer) in
+    let b = part-up-to o n (l .loop .i) (end .result) (omega (arith, end .ensures .0)) (end .ensures .1) (omega arith) (c .before .same .result) (c .before .same .ensures) in
+    sym (up-to-differs o n 0 (l .loop .i) (end .result) _ (l .loop .inv .0) b (c .if3 .left) 0)
+
+returns-4 : tie.Need-returns-4 Inv-loop μ-loop
+returns-4 c =
     let l = c .before in
-    let a = l .before .before .before .before .args in
+    let a = l .before .before .before .before .before .before .before .args in
     sym (l .loop .inv .0 ∙ begins-end (now (a .older)) (drop (l .loop .i) (now (a .newer))) (l .loop .i) (c .loop-test .left))
 
 pub begins-spec : {M : Type 1} → statement M
@@ -76,6 +96,10 @@ begins-spec =
     Inv-loop
     μ-loop
     returns
+    few-requires
+    first-same-requires
+    returns-2
+    mul-i
     loop-holds
     next-end-requires
     sub-same
@@ -87,5 +111,5 @@ begins-spec =
     same-requires
     loop-less
     loop-again
-    returns-2
-    returns-3)
+    returns-3
+    returns-4)
