@@ -7,7 +7,7 @@ use common::*;
 use rng::Rng;
 use second::limits::RECORD;
 use second::store::Store;
-use second::{compact_bytes, source_at, tidy_bytes, Record, Source};
+use second::{compact_bytes, source_at, tidy_bytes, Record};
 
 const NEW: u64 = 9;
 
@@ -50,14 +50,6 @@ fn lost_piece_is_noticed() {
             != after.read(&joined(&new, &[]), BLOCK_SIZE, *p)
     };
     assert!((0..30).any(|p| differs(&p)));
-}
-
-fn over(upper: Source, lower: Source) -> Source {
-    if upper == Source::Nothing {
-        lower
-    } else {
-        upper
-    }
 }
 
 #[test]

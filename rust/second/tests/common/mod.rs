@@ -3,7 +3,7 @@
 
 pub mod random;
 
-use second::{Record, Refusal};
+use second::{Record, Refusal, Source};
 
 pub const MIB: u64 = 1_048_576;
 pub const CHUNK: u64 = 67_108_864;
@@ -30,6 +30,15 @@ pub fn decoded(bytes: &[u8]) -> Vec<Record> {
 pub fn holders(row: &[Record], position: u64) -> Vec<u64> {
     let holds = |record: &Record| (record.pos..record.pos + record.len).contains(&position);
     (0..).zip(row).filter(|(_, record)| holds(record)).map(|(number, _)| number).collect()
+}
+
+/// A source laid over another.
+pub fn over(upper: Source, lower: Source) -> Source {
+    if upper == Source::Nothing {
+        lower
+    } else {
+        upper
+    }
 }
 
 pub fn no(number: u64) -> Refusal {
