@@ -53,6 +53,17 @@ cat > "$work/seek.expected" <<'TEXT'
 24: none
 TEXT
 
+# By hand, from the requirements. Slice 7 covers 0 to 5; then slice 8 covers 4 to 7 and zeros 2 and 3; then nothing is new. Compaction of the first two covers 0 to 7
+# with slice 9 and leaves the zeros, so the list is another. Of the next record a byte is missing; the whole of it covers 10 and 11 with slice 5.
+cat > "$work/added.expected" <<'TEXT'
+added 1: 777777......
+added 2: 77008888....
+added 0: 77008888....
+rewritten 2: 99009999....
+refused 1 at 0: 99009999....
+added 1: 99009999..55
+TEXT
+
 # The lines that the page shows, by hand from the requirements.
 sed -n 's/^    //p' "$here/../docs/VIEW-AGAIN.md" > "$work/again.expected"
 

@@ -117,6 +117,15 @@ typedef struct ezk_compacted {
     uint64_t list; /* bytes of the new list */
 } ezk_compacted;
 
+/* What ezk_added returns. */
+typedef struct ezk_part {
+    uint64_t refusal;
+    uint64_t place;
+    uint64_t rewritten; /* 1 if the older list is no beginning of the newer, else 0 */
+    uint64_t offset;    /* where the part starts in the newer list, in bytes */
+    uint64_t length;    /* its bytes */
+} ezk_part;
+
 /* What the readers of object names return. */
 typedef struct ezk_object {
     uint64_t refusal;
@@ -218,6 +227,28 @@ ezk_answer ezk_read_plan(const uint8_t *list, size_t list_len, uint64_t chunk_le
 ezk_compacted ezk_compact(const uint8_t *list, size_t list_len, uint64_t block_size,
                           uint64_t k, uint64_t new_id, uint8_t *plan, size_t plan_len,
                           uint8_t *new_list, size_t new_list_len);
+
+/*
+ * Tells what is new since last time: older is a list as it was read before, newer the same list
+ * as it is now. The answer is a part of newer, by its offset and length in bytes; nothing is
+ * written.
+ *
+ * If older is a beginning of newer, byte for byte, rewritten is 0 and the part is the added
+ * records: offset is older_len and length is newer_len - older_len, which is 0 for equal lists.
+ * What the older list covers, with the part laid over it, is then what the newer list covers, so
+ * it is enough to apply the part. Otherwise, as after a compaction, rewritten is 1 and the part
+ * is the whole newer list: what was known of the older list is out of date. A length of 0 alone
+ * says nothing: test refusal and rewritten first.
+ *
+ * The part may be handed to the other calls as a list. The two lists may be the same memory or
+ * overlap.
+ *
+ * Which of the two was refused is not told, and place is counted in that one: ezk_check tells
+ * whether it was older.
+ * Refusals, in order: 1, 2, 3 to 6, 16 of older, then 1, 2, 3 to 6, 16 of newer.
+ */
+ezk_part ezk_added(const uint8_t *older, size_t older_len, const uint8_t *newer,
+                   size_t newer_len);
 
 /*
  * Writes an object name, chunks/{id/1000/1000}/{id/1000}/{id}_{block}_{length}, without a

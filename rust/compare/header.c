@@ -45,6 +45,13 @@ FIELD(ezk_compacted, plan, 2);
 FIELD(ezk_compacted, list, 3);
 FIELDS(ezk_compacted, 4);
 
+FIELD(ezk_part, refusal, 0);
+FIELD(ezk_part, place, 1);
+FIELD(ezk_part, rewritten, 2);
+FIELD(ezk_part, offset, 3);
+FIELD(ezk_part, length, 4);
+FIELDS(ezk_part, 5);
+
 FIELD(ezk_object, refusal, 0);
 FIELD(ezk_object, place, 1);
 FIELD(ezk_object, id, 2);
@@ -123,6 +130,15 @@ static void compacted(ezk_compacted a, uint64_t *to)
     to[3] = a.list;
 }
 
+static void part(ezk_part a, uint64_t *to)
+{
+    to[0] = a.refusal;
+    to[1] = a.place;
+    to[2] = a.rewritten;
+    to[3] = a.offset;
+    to[4] = a.length;
+}
+
 static void object(ezk_object a, uint64_t *to)
 {
     to[0] = a.refusal;
@@ -178,6 +194,12 @@ void via_compact(const uint8_t *list, size_t list_len, uint64_t block_size, uint
     compacted(ezk_compact(list, list_len, block_size, k, new_id, plan, plan_len, new_list,
                           new_list_len),
               to);
+}
+
+void via_added(const uint8_t *older, size_t older_len, const uint8_t *newer, size_t newer_len,
+               uint64_t *to)
+{
+    part(ezk_added(older, older_len, newer, newer_len), to);
 }
 
 void via_write_object_name(uint64_t id, uint64_t block, uint64_t length, uint8_t *out,

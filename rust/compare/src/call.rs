@@ -1,5 +1,7 @@
 //! A call as data: what goes in, and how much room is lent.
 
+use crate::pair::Pair;
+
 /// The room of a lent buffer, told by the length of the answer.
 #[derive(Clone, Copy, Debug)]
 pub enum Room {
@@ -30,6 +32,7 @@ pub enum Call {
     Tidy { list: Vec<u8>, out: Room },
     ReadPlan { list: Vec<u8>, chunk_len: u64, block_size: u64, start: u64, count: u64, out: Room },
     Compact { list: Vec<u8>, block_size: u64, k: u64, new_id: u64, plan: Room, new_list: Room },
+    Added { pair: Pair },
     WriteObjectName { id: u64, block: u64, length: u64, out: Room },
     WriteFullName { volume: Vec<u8>, id: u64, block: u64, length: u64, out: Room },
     ReadObjectName { name: Vec<u8> },
@@ -41,7 +44,7 @@ pub enum Call {
 }
 
 impl Call {
-    /// The list of a call that takes one.
+    /// The list of a call that takes one and no other.
     pub fn list(&self) -> Option<&[u8]> {
         match self {
             Call::Check { list }
@@ -61,6 +64,7 @@ impl Call {
             Call::Tidy { .. } => "tidy",
             Call::ReadPlan { .. } => "read_plan",
             Call::Compact { .. } => "compact",
+            Call::Added { .. } => "added",
             Call::WriteObjectName { .. } => "write_object_name",
             Call::WriteFullName { .. } => "write_full_name",
             Call::ReadObjectName { .. } => "read_object_name",

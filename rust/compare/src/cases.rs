@@ -1,6 +1,7 @@
 //! The calls that the papers speak of, and limits from both sides. Their values are tested
 //! in the second program.
 
+mod history;
 mod seeking;
 
 use second::limits::{CHUNK, LIST_RECORDS, RECORD};
@@ -8,6 +9,7 @@ use second::Record;
 
 use crate::call::{Call, Room};
 use crate::lists::combed;
+use crate::pair::Pair;
 
 const MIB: u64 = 1_048_576;
 const BLOCK: u64 = 4_194_304;
@@ -21,6 +23,7 @@ pub fn all() -> Vec<Call> {
         tidied_to_the_limit(),
         fed_back(),
         seeking::all(),
+        history::all(),
         names(),
         keys(),
     ]
@@ -40,6 +43,8 @@ fn with(list: Vec<u8>) -> Vec<Call> {
         Call::View { list: list.clone(), chunk_len, out },
         Call::Tidy { list: list.clone(), out },
         Call::ReadPlan { list: list.clone(), chunk_len, block_size, start, count, out },
+        Call::Added { pair: Pair::apart(&list, &[]) },
+        Call::Added { pair: Pair::apart(&[], &list) },
         Call::Compact { list, block_size, k: 1, new_id: 1_000, plan: out, new_list: out },
     ]
 }

@@ -3,6 +3,7 @@
 
 mod faulty;
 mod forms;
+mod history;
 mod seeking;
 
 use second::limits::{CHUNK, RECORD};
@@ -23,6 +24,11 @@ pub struct Faults(u64);
 impl Faults {
     pub fn has(self, number: u64) -> bool {
         self.0 >> number & 1 == 1
+    }
+
+    /// More than one.
+    pub fn several(self) -> bool {
+        self.0.count_ones() > 1
     }
 
     /// The first in the written order, where `bad` is the first bad record's refusal.
@@ -51,6 +57,7 @@ pub fn run(tally: &mut Tally) {
         tidy(tally, variant);
         read_plan(tally, variant);
         compact(tally, variant);
+        history::added(tally, variant);
     }
     forms::run(tally);
     seeking::run(tally);

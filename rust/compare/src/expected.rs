@@ -1,7 +1,8 @@
 //! Answers of the second program as the C interface gives them, each with its refusal's
 //! number in front, 0 for none.
 
-use ezumokarin::sys::{ezk_answer, ezk_chunk_key, ezk_compacted, ezk_found, ezk_object};
+use ezumokarin::sys::{ezk_answer, ezk_chunk_key, ezk_compacted};
+use ezumokarin::sys::{ezk_found, ezk_object, ezk_part};
 use second::{Answer, ChunkKey, Compacted, Found, ObjectName, Record, Refusal};
 
 pub fn answered(answer: Answer) -> (u64, ezk_answer) {
@@ -33,6 +34,20 @@ pub fn compacted(answer: Result<Compacted, Refusal>) -> (u64, ezk_compacted) {
         }
         Err(Refusal { number, place }) => {
             (number, ezk_compacted { refusal: number, place, ..Default::default() })
+        }
+    }
+}
+
+/// The second program answers in two calls. Its part is the end of the newer list, or all of it.
+pub fn part(older: &[u8], newer: &[u8]) -> (u64, ezk_part) {
+    match second::rewritten(older, newer) {
+        Ok(rewritten) => {
+            let length = second::added(older, newer).len() as u64;
+            let offset = newer.len() as u64 - length;
+            (0, ezk_part { rewritten: rewritten.into(), offset, length, ..Default::default() })
+        }
+        Err(Refusal { number, place }) => {
+            (number, ezk_part { refusal: number, place, ..Default::default() })
         }
     }
 }

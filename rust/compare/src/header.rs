@@ -1,7 +1,8 @@
 //! Every call through C that was compiled from `include/ezumokarin.h` (`header.c`), which
 //! hands the fields over in a row of numbers.
 
-use ezumokarin::sys::{ezk_answer, ezk_chunk_key, ezk_compacted, ezk_found, ezk_object};
+use ezumokarin::sys::{ezk_answer, ezk_chunk_key, ezk_compacted};
+use ezumokarin::sys::{ezk_found, ezk_object, ezk_part};
 
 use crate::binding::Binding;
 
@@ -13,6 +14,7 @@ pub const BINDING: Binding = Binding {
     tidy,
     read_plan,
     compact,
+    added,
     write_object_name,
     write_full_name,
     read_object_name,
@@ -55,6 +57,7 @@ extern "C" {
         new_list_len: usize,
         to: To,
     );
+    fn via_added(older: In, older_len: usize, newer: In, newer_len: usize, to: To);
     fn via_write_object_name(id: u64, block: u64, length: u64, out: Out, out_len: usize, to: To);
     fn via_write_full_name(
         volume: In,
@@ -89,6 +92,10 @@ fn answer([refusal, place, count]: [u64; 3]) -> ezk_answer {
 fn found(row: [u64; 9]) -> ezk_found {
     let [refusal, place, found, segment, pos, id, size, off, len] = row;
     ezk_found { refusal, place, found, segment, pos, id, size, off, len }
+}
+
+fn part([refusal, place, rewritten, offset, length]: [u64; 5]) -> ezk_part {
+    ezk_part { refusal, place, rewritten, offset, length }
 }
 
 fn object([refusal, place, id, block, length, volume]: [u64; 6]) -> ezk_object {
@@ -147,6 +154,11 @@ fn compact(
         via_compact(list, len, block_size, k, new_id, plan, plan_len, new, new_len, to)
     });
     ezk_compacted { refusal, place, plan, list }
+}
+
+fn added(older: &[u8], newer: &[u8]) -> ezk_part {
+    let (newer, newer_len) = (newer.as_ptr(), newer.len());
+    part(filled(|to| unsafe { via_added(older.as_ptr(), older.len(), newer, newer_len, to) }))
 }
 
 fn write_object_name(id: u64, block: u64, length: u64, out: &mut [u8]) -> ezk_answer {

@@ -1,6 +1,7 @@
-//! Kinds of lists, and of seeking, that random calls must have met, each counted in a table of its
-//! own.
+//! Kinds of lists, of seeking and of pairs of lists that random calls must have met, each counted
+//! in a table of its own.
 
+mod history;
 mod seeking;
 
 use std::collections::HashSet;
@@ -11,7 +12,7 @@ use second::Record;
 use crate::call::Call;
 use crate::tally::Tally;
 
-/// The calls that take a list.
+/// The calls that take one list.
 const CALLS: [&str; 5] = ["check", "view", "tidy", "read_plan", "compact"];
 
 /// A kind of list, and a refusal (0 for an answer) that each call must give to one of them.
@@ -36,6 +37,7 @@ const MARKS: [Mark; 9] = [
 /// Counts a call that gave this refusal under every mark that it or its list has.
 pub fn count(tally: &mut Tally, call: &Call, refusal: u64) {
     seeking::count(tally, call);
+    history::count(tally, call, refusal);
     let Some(list) = call.list() else {
         return;
     };
@@ -51,7 +53,7 @@ pub fn missed(tally: &Tally) -> Vec<String> {
     let missed = pairs.filter(|(mark, call)| tally.counted(mark.name, call, mark.met) == 0);
     let said =
         |(mark, call): (&Mark, &str)| format!("no {call} of {} gives {}", mark.name, mark.met);
-    missed.map(said).chain(seeking::missed(tally)).collect()
+    missed.map(said).chain(seeking::missed(tally)).chain(history::missed(tally)).collect()
 }
 
 fn sized_zeros(record: &Record) -> bool {

@@ -49,12 +49,12 @@ fn cut(rng: &mut Rng, view: &mut Vec<u8>) {
     }
 }
 
-/// Exchanges two whole records, if there are any.
-fn exchanged(rng: &mut Rng, view: &mut [u8]) {
-    let records = (view.len() / RECORD) as u64;
-    if records > 0 {
-        let (a, b) = (rng.below(records) as usize, rng.below(records) as usize);
-        (0..RECORD).for_each(|i| view.swap(a * RECORD + i, b * RECORD + i));
+/// Exchanges two whole records of a view or of a list, if there are any.
+pub fn exchanged(rng: &mut Rng, records: &mut [u8]) {
+    let count = (records.len() / RECORD) as u64;
+    if count > 0 {
+        let (a, b) = (rng.below(count) as usize, rng.below(count) as usize);
+        (0..RECORD).for_each(|i| records.swap(a * RECORD + i, b * RECORD + i));
     }
 }
 
@@ -113,7 +113,8 @@ fn repeated(rng: &mut Rng, list: &mut Vec<u8>) {
     list.splice(at..at, record.to_bytes());
 }
 
-fn byte(rng: &mut Rng, bytes: &mut [u8]) {
+/// Gives one byte another value, or the same again.
+pub fn byte(rng: &mut Rng, bytes: &mut [u8]) {
     if !bytes.is_empty() {
         let at = rng.below(bytes.len() as u64) as usize;
         bytes[at] = rng.u64() as u8;

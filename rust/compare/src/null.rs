@@ -5,8 +5,9 @@ use std::fmt::Debug;
 use std::ptr::{null, null_mut};
 
 use ezumokarin::sys::*;
+use second::limits::RECORD;
 
-use crate::expected::{answered, chunk_key, compacted, found, object};
+use crate::expected::{answered, chunk_key, compacted, found, object, part};
 use crate::tally::Tally;
 
 const BLOCK: u64 = 65_536;
@@ -32,6 +33,10 @@ pub fn run(tally: &mut Tally) {
         let got = ezk_compact(nil, 0, BLOCK, 0, 1, out, 0, out, 0);
         let want = second::compact(&[], BLOCK, 0, 1, &mut [], &mut []);
         same(tally, "compact", got, compacted(want));
+        let one = [0; RECORD];
+        same(tally, "added", ezk_added(nil, 0, nil, 0), part(&[], &[]));
+        same(tally, "added", ezk_added(nil, 0, one.as_ptr(), RECORD), part(&[], &one));
+        same(tally, "added", ezk_added(one.as_ptr(), RECORD, nil, 0), part(&one, &[]));
         let got = ezk_write_object_name(1, 0, 1, out, 0);
         let want = second::write_object_name(1, 0, 1, &mut []);
         same(tally, "write_object_name", got, answered(want));

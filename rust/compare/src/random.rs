@@ -2,7 +2,7 @@
 
 use crate::call::{Call, Room};
 use crate::tally::Tally;
-use crate::{lists, marks, mutate, numbers, texts, views};
+use crate::{history, lists, marks, mutate, numbers, texts, views};
 use rng::Rng;
 
 const ORIGIN: &str = "random";
@@ -17,8 +17,8 @@ pub fn run(tally: &mut Tally, seed: u64, calls: u64) {
     }
 }
 
-/// Random calls must meet every refusal that the chosen calls do, and every kind of list and of
-/// seeking that is marked; else they are too tame.
+/// Random calls must meet every refusal that the chosen calls do, and every kind of list, of
+/// seeking and of pair that is marked; else they are too tame.
 pub fn reach(tally: &mut Tally) {
     for missed in marks::missed(tally) {
         tally.difference("random calls", &missed);
@@ -29,9 +29,10 @@ pub fn reach(tally: &mut Tally) {
 }
 
 fn any_call(rng: &mut Rng) -> Call {
-    match rng.below(12) {
+    match rng.below(13) {
         0..=7 => with_list(rng),
         8 => in_view(rng),
+        9 => Call::Added { pair: history::pair(rng) },
         _ => with_text(rng),
     }
 }

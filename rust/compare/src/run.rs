@@ -1,5 +1,7 @@
 //! Makes one call through a binding of the archive and by the second program, and says what differs.
 
+mod two;
+
 use std::fmt::Debug;
 
 use ezumokarin::sys::{ezk_answer, ezk_compacted};
@@ -50,6 +52,7 @@ pub fn run(binding: &Binding, call: &Call, shift: usize) -> Seen {
                 (binding.compact)(list, *block_size, *k, *new_id, plan, new_list)
             })
         }
+        Call::Added { pair } => two::reading(pair, shift, binding.added),
         Call::WriteObjectName { id, block, length, out } => {
             let want = second::object_name(*id, *block, *length);
             writing(&[], want, *out, shift, |_, out| {

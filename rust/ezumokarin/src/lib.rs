@@ -25,6 +25,7 @@
 #![warn(missing_docs)]
 
 mod find;
+mod history;
 mod keys;
 mod lists;
 mod names;
@@ -35,6 +36,7 @@ mod refusal;
 pub mod sys;
 
 pub use find::{find, Found};
+pub use history::{added, Added};
 pub use keys::{read_redis_key, read_tkv_key, write_redis_key, write_tkv_key, ChunkKey};
 pub use lists::{check, compact, read_plan, tidy, view, Compacted};
 pub use names::{read_full_name, read_object_name, FullName, ObjectName};

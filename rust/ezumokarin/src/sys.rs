@@ -55,6 +55,22 @@ pub struct ezk_compacted {
     pub list: u64,
 }
 
+/// What `ezk_added` returns.
+#[repr(C)]
+#[derive(Clone, Copy, Debug, Default, PartialEq, Eq)]
+pub struct ezk_part {
+    /// 0, or the number of the refusal.
+    pub refusal: u64,
+    /// The place of the refused record in its list, for refusals 3 to 6 and 16.
+    pub place: u64,
+    /// 1 if the older list is no beginning of the newer, else 0.
+    pub rewritten: u64,
+    /// Where the part starts in the newer list, in bytes.
+    pub offset: u64,
+    /// Its bytes.
+    pub length: u64,
+}
+
 /// What the readers of names return.
 #[repr(C)]
 #[derive(Clone, Copy, Debug, Default, PartialEq, Eq)]
@@ -110,6 +126,7 @@ macro_rules! fields {
 fields!(ezk_answer: refusal, place, count);
 fields!(ezk_found: refusal, place, found, segment, pos, id, size, off, len);
 fields!(ezk_compacted: refusal, place, plan, list);
+fields!(ezk_part: refusal, place, rewritten, offset, length);
 fields!(ezk_object: refusal, place, id, block, length, volume);
 fields!(ezk_chunk_key: refusal, place, inode, index);
 
@@ -146,6 +163,12 @@ extern "C" {
         new_list: *mut u8,
         new_list_len: usize,
     ) -> ezk_compacted;
+    pub fn ezk_added(
+        older: *const u8,
+        older_len: usize,
+        newer: *const u8,
+        newer_len: usize,
+    ) -> ezk_part;
     pub fn ezk_write_object_name(
         id: u64,
         block: u64,
@@ -217,6 +240,11 @@ pub fn compact(
     let (plan, plan_len) = (plan.as_mut_ptr(), plan.len());
     let (new, new_len) = (new_list.as_mut_ptr(), new_list.len());
     unsafe { ezk_compact(list, list_len, block_size, k, new_id, plan, plan_len, new, new_len) }
+}
+
+/// `ezk_added`
+pub fn added(older: &[u8], newer: &[u8]) -> ezk_part {
+    unsafe { ezk_added(older.as_ptr(), older.len(), newer.as_ptr(), newer.len()) }
 }
 
 /// `ezk_write_object_name`

@@ -64,6 +64,9 @@ fn every_call_on_2048_records() {
     let none = Compacted { plan: 0, list: 49_152 };
     assert_eq!(compact(&list, BLOCK, 0, 1, &mut out, &mut new_list), Ok(none));
     assert_eq!(new_list, list);
+    let last = Added::Records(&list[49_128..]);
+    assert_eq!(added(&list[..49_128], &list), Ok(last));
+    assert_eq!(added(&list, &list[..49_128]), Ok(Added::Rewritten(&list[..49_128])));
 }
 
 #[test]
@@ -77,5 +80,7 @@ fn no_call_on_2049_records() {
     assert_eq!(read_plan(&list, CHUNK, BLOCK, 0, CHUNK, &mut out), refused);
     let compacted = compact(&list, BLOCK, 2_049, 1, &mut out, &mut new_list);
     assert_eq!(compacted, Err(Refusal::ListRecords));
+    assert_eq!(added(&list, &[]), Err(Refusal::ListRecords));
+    assert_eq!(added(&[], &list), Err(Refusal::ListRecords));
     assert!(out.iter().chain(&new_list).all(|byte| *byte == 0xee));
 }

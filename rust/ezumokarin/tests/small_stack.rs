@@ -27,6 +27,7 @@ fn every_call_in_the_stated_stack() {
         assert!(tidy(&list, &mut out).is_ok());
         assert!(read_plan(&list, CHUNK, BLOCK, 0, CHUNK, &mut out).is_ok());
         assert!(compact(&list, BLOCK, 2_048, 1, &mut out, &mut new_list).is_ok());
+        assert_eq!(added(&list[..24], &list), Ok(Added::Records(&list[24..])));
     };
     let thread = Builder::new().stack_size(STATED).spawn(calls).expect("a thread");
     thread.join().expect("every call in the stated stack");

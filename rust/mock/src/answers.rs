@@ -36,6 +36,16 @@ pub struct ezk_compacted {
 
 #[repr(C)]
 #[derive(Default)]
+pub struct ezk_part {
+    refusal: u64,
+    place: u64,
+    rewritten: u64,
+    offset: u64,
+    length: u64,
+}
+
+#[repr(C)]
+#[derive(Default)]
 pub struct ezk_object {
     refusal: u64,
     place: u64,
@@ -80,6 +90,19 @@ pub fn compacted(answer: Result<Compacted, Refusal>) -> ezk_compacted {
         }
         Err(Refusal { number, place }) => {
             ezk_compacted { refusal: number, place, ..ezk_compacted::default() }
+        }
+    }
+}
+
+/// The part is the end of the newer list, or all of it.
+pub fn part(newer: &[u8], added: &[u8], rewritten: Result<bool, Refusal>) -> ezk_part {
+    match rewritten {
+        Ok(rewritten) => {
+            let (offset, length) = ((newer.len() - added.len()) as u64, added.len() as u64);
+            ezk_part { rewritten: rewritten.into(), offset, length, ..ezk_part::default() }
+        }
+        Err(Refusal { number, place }) => {
+            ezk_part { refusal: number, place, ..ezk_part::default() }
         }
     }
 }

@@ -3,8 +3,8 @@
 mod answers;
 mod lent;
 
-use answers::{answered, compacted, found, key, object};
-use answers::{ezk_answer, ezk_chunk_key, ezk_compacted, ezk_found, ezk_object};
+use answers::{answered, compacted, found, key, object, part};
+use answers::{ezk_answer, ezk_chunk_key, ezk_compacted, ezk_found, ezk_object, ezk_part};
 use lent::{bytes, room};
 
 /// # Safety
@@ -85,6 +85,19 @@ pub unsafe extern "C" fn ezk_compact(
     let list = bytes(list, list_len);
     let (plan, new_list) = (room(plan, plan_len), room(new_list, new_list_len));
     compacted(second::compact(list, block_size, k, new_id, plan, new_list))
+}
+
+/// # Safety
+/// As for [`ezk_check`].
+#[no_mangle]
+pub unsafe extern "C" fn ezk_added(
+    older: *const u8,
+    older_len: usize,
+    newer: *const u8,
+    newer_len: usize,
+) -> ezk_part {
+    let (older, newer) = (bytes(older, older_len), bytes(newer, newer_len));
+    part(newer, second::added(older, newer), second::rewritten(older, newer))
 }
 
 /// # Safety
