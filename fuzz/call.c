@@ -23,6 +23,7 @@ static const struct {
     [TIDY] = {"tidy", 1, LIST | BIT(11) | BIT(12)},
     [READ_PLAN] = {"read_plan", 1, BIT(7) | BIT(8) | LIST | BIT(12)},
     [COMPACT] = {"compact", 2, BIT(8) | LIST | BIT(10) | BIT(9) | BIT(12)},
+    [ADDED] = {"added", 0, LIST},
     [WRITE_OBJECT_NAME] = {"write_object_name", 1, BIT(13) | BIT(12)},
     [WRITE_FULL_NAME] = {"write_full_name", 1, BIT(13) | BIT(12)},
     [READ_OBJECT_NAME] = {"read_object_name", 0, BIT(13)},
@@ -33,14 +34,22 @@ static const struct {
     [READ_TKV_KEY] = {"read_tkv_key", 0, BIT(13)},
 };
 
+static void print(const char *what, const uint8_t *bytes, size_t len)
+{
+    fprintf(stderr, "  %zu %s:", len, what);
+    for (size_t i = 0; i < len && i < 10 * EZK_RECORD; i++)
+        fprintf(stderr, "%s%02x", i % EZK_RECORD ? " " : "\n  ", bytes[i]);
+    fprintf(stderr, "\n");
+}
+
 _Noreturn void found(const call *call, const char *what)
 {
     fprintf(stderr, "FOUND in %s: %s\n", name(call->kind), what);
-    fprintf(stderr, "  numbers %" PRIu64 " %" PRIu64 " %" PRIu64 " %" PRIu64 ", %zu bytes:",
-            call->number[0], call->number[1], call->number[2], call->number[3], call->len);
-    for (size_t i = 0; i < call->len && i < 10 * EZK_RECORD; i++)
-        fprintf(stderr, "%s%02x", i % EZK_RECORD ? " " : "\n  ", call->bytes[i]);
-    fprintf(stderr, "\n");
+    fprintf(stderr, "  numbers %" PRIu64 " %" PRIu64 " %" PRIu64 " %" PRIu64 "\n", call->number[0],
+            call->number[1], call->number[2], call->number[3]);
+    print("bytes", call->bytes, call->len);
+    if (call->kind == ADDED)
+        print("bytes of the older list", call->older, call->older_len);
     abort();
 }
 
@@ -77,6 +86,12 @@ static answer compacted(ezk_compacted a)
     return (answer){.refusal = a.refusal, .place = a.place, .value = {a.plan, a.list}};
 }
 
+static answer part(ezk_part a)
+{
+    return (answer){
+        .refusal = a.refusal, .place = a.place, .value = {a.rewritten, a.offset, a.length}};
+}
+
 static answer object(ezk_object a)
 {
     return (answer){
@@ -86,6 +101,16 @@ static answer object(ezk_object a)
 static answer chunk_key(ezk_chunk_key a)
 {
     return (answer){.refusal = a.refusal, .place = a.place, .value = {a.inode, a.index}};
+}
+
+static int starts_with(const uint8_t *list, size_t len, const uint8_t *front, size_t front_len)
+{
+    return front_len <= len && (!front_len || !memcmp(list, front, front_len));
+}
+
+int begins(const call *call)
+{
+    return starts_with(call->bytes, call->len, call->older, call->older_len);
 }
 
 static answer pass(enum kind kind, const uint64_t n[4], const lent *in, const lent out[2])
@@ -127,6 +152,23 @@ static answer pass(enum kind kind, const uint64_t n[4], const lent *in, const le
     }
 }
 
+/* Both lists may be read in one memory: for some salts they are, where one begins the other. */
+static answer pass_two(const call *call, const lent *newer)
+{
+    lent older = lend(1, call->places / PLACES % PLACES, (uint8_t)(call->salt + 1), call->older,
+                      call->older_len);
+    const uint8_t *from = older.bytes, *to = newer->bytes;
+    int together = call->salt % 4 == 0;
+    if (together && begins(call))
+        from = to;
+    else if (together && starts_with(call->older, call->older_len, call->bytes, call->len))
+        to = from;
+    answer a = part(ezk_added(from, older.len, to, newer->len));
+    must(call, !changed(&older, 0), "a byte in or beside the older list changed");
+    give_back(&older);
+    return a;
+}
+
 static void check_refusal(const call *call, const answer *a)
 {
     uint64_t refusal = a->refusal;
@@ -161,7 +203,8 @@ answer make(const call *call, const size_t room[2])
         places /= PLACES;
         out[i] = lend(1 + i, places % PLACES, (uint8_t)(call->salt + 1 + i), NULL, room[i]);
     }
-    answer a = pass(call->kind, call->number, &in, out);
+    answer a = call->kind == ADDED ? pass_two(call, &in)
+                                   : pass(call->kind, call->number, &in, out);
     const char *what = changed(&in, 0);
     must(call, !what, "a byte in or beside the input changed");
     for (unsigned i = 0; i < written; i++) {

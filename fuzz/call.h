@@ -15,6 +15,7 @@ enum kind {
     TIDY,
     READ_PLAN,
     COMPACT,
+    ADDED,
     WRITE_OBJECT_NAME,
     WRITE_FULL_NAME,
     READ_OBJECT_NAME,
@@ -31,20 +32,25 @@ enum { REFUSALS = 17 }; /* with 0 for an answer; 14 and 15 are none */
 /* The most records of a list, and of a tidied list. */
 enum { LIST_RECORDS = 2048, TIDIED_RECORDS = 2048 };
 
-/* Numbers in the order in which the call takes them; bytes are its list, view, volume or text. */
+/*
+ * Numbers in the order in which the call takes them; bytes are its list, view, volume or text. Of
+ * ADDED they are the newer list, and only it has an older one.
+ */
 typedef struct call {
     enum kind kind;
     uint64_t number[4];
     const uint8_t *bytes;
     size_t len;
-    uint8_t places; /* where input and outputs stand: 2 bits each */
+    const uint8_t *older;
+    size_t older_len;
+    uint8_t places; /* where inputs and outputs stand: 2 bits each */
     uint8_t salt;
 } call;
 
 enum { VALUES = 7 };
 
-/* value: count; or found, segment and its five numbers; or plan and list; or id, block, length,
- * volume; or inode, index. */
+/* value: count; or found, segment and its five numbers; or plan and list; or rewritten, offset,
+ * length; or id, block, length, volume; or inode, index. */
 typedef struct answer {
     uint64_t refusal, place, value[VALUES];
     uint8_t *written[2]; /* copies of what was written, malloc'ed exactly */
@@ -55,6 +61,9 @@ const char *name(enum kind kind);
 
 /* Number of outputs: 0 to 2. */
 unsigned outputs(enum kind kind);
+
+/* Whether the older list of ADDED is a beginning of the newer. */
+int begins(const call *call);
 
 /* Makes the call with rooms of these lengths. Free the answer with done_with. */
 answer make(const call *call, const size_t room[2]);

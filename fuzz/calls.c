@@ -71,6 +71,8 @@ int LLVMFuzzerTestOneInput(const uint8_t *data, size_t size)
     for (int i = 0; i < 4; i++)
         call.number[i] = be(head + NUMBERS + 8 * i, 8);
     give_shape(&call, bytes, head[SHAPE]);
+    if (call.kind == ADDED)
+        give_older(&call, bytes, head[SHAPE]);
 
     answer a = make_ample(&call);
     keep_laws(&call, &a);

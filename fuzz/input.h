@@ -12,7 +12,7 @@ enum layout {
     SALT,                 /* what it holds, and its alignment */
     ROOMS,                /* two numbers of 2 bytes: how long the buffers are */
     NUMBERS = ROOMS + 4,  /* four numbers of 8 bytes, big-endian */
-    BYTES = NUMBERS + 32, /* list (also of a view), volume or text */
+    BYTES = NUMBERS + 32, /* list (also of a view, or two of them), volume or text */
 };
 
 /*

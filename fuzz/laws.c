@@ -25,11 +25,14 @@ void keep_laws(const call *call, const answer *a)
     case FIND:
         return find_law(call, a);
     case TIDY:
-        return tidy_law(call, a);
+        tidy_law(call, a);
+        return exchange_law(call, a);
     case READ_PLAN:
         return plan_law(call, a);
     case COMPACT:
         return compact_law(call, a);
+    case ADDED:
+        return added_law(call, a);
     default:
         return text_law(call, a);
     }

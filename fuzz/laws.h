@@ -10,7 +10,11 @@ void find_law(const call *call, const answer *a);
 void tidy_law(const call *call, const answer *a);
 void plan_law(const call *call, const answer *a);
 void compact_law(const call *call, const answer *a);
+void added_law(const call *call, const answer *a);
 void text_law(const call *call, const answer *a);
+
+/* Of a list that was tidied, or that is refused with 11. */
+void exchange_law(const call *call, const answer *tidied);
 
 /* Seeks at some positions of a view, of any length of the chunk. */
 void seek_in(const call *viewing, const answer *view);

@@ -111,6 +111,9 @@ uint64_t expected_refusal(const call *call, uint64_t *place)
             return EZK_BLOCK_SIZE;
         refusal = list_refusal(call->bytes, call->len, place);
         return refusal ? refusal : compact_refusal(call);
+    case ADDED:
+        refusal = list_refusal(call->older, call->older_len, place);
+        return refusal ? refusal : list_refusal(call->bytes, call->len, place);
     case FIND:
         return call->len % EZK_RECORD ? EZK_LIST_LENGTH : 0;
     case CHECK:

@@ -47,6 +47,7 @@ static void list_seeds(unsigned shape, const uint8_t *list, size_t len)
     seed(TIDY, shape, WITH(0), list, len);
     seed(READ_PLAN, shape, WITH(EZK_CHUNK, BLOCK, 0, EZK_CHUNK), list, len);
     seed(COMPACT, shape, WITH(BLOCK, 1, 1000), list, len);
+    seed(ADDED, shape, WITH(EZK_RECORD), list, len);
 }
 
 static size_t list_of(uint8_t *list, const record *records, size_t count)
@@ -142,6 +143,42 @@ static void views(void)
     seed(FIND, AS_IS, WITH(3, 0), row, sizeof row - 1); /* 1 */
 }
 
+/* The first records are the older list. */
+static void pair(const record *records, size_t older, size_t count)
+{
+    uint8_t lists[6 * EZK_RECORD];
+    seed(ADDED, AS_IS, WITH(older * EZK_RECORD), lists, list_of(lists, records, count));
+}
+
+static void pairs(void)
+{
+    const record a = {0, 7, 20, 0, 20}, b = {4, 0, 0, 0, 8}, c = {30, 8, 9, 0, 9};
+    const record sized = {4, 0, 8, 0, 8}, other = {0, 7, 21, 0, 20}; /* 16 beside a */
+    const record first = {16 * MIB, 7, 20, 0, 20}, last = {0, 7, 20, 0, 19};
+    const record past = {0, 7, 20, 4, 17}; /* 6 */
+    uint8_t list[3 * EZK_RECORD];
+    size_t len = list_of(list, (const record[]){a, b, c}, 3);
+    pair((const record[]){a, a, b, c}, 1, 4);
+    pair((const record[]){a, b, a, b, c}, 2, 5);
+    pair((const record[]){a, b, a, b}, 2, 4);
+    pair((const record[]){a, b, b, a, c}, 2, 5);
+    pair((const record[]){a, b, a, sized}, 2, 4);
+    pair((const record[]){a, b, c, a}, 3, 4);
+    pair((const record[]){a, b, c}, 0, 3);
+    pair((const record[]){a, b, c}, 3, 3);
+    pair((const record[]){a, first, b}, 1, 3);
+    pair((const record[]){a, last, b}, 1, 3);
+    pair((const record[]){a, other, past}, 2, 3);           /* 16 of the older */
+    pair((const record[]){a, other, a, other, past}, 2, 5); /* 16, also as a beginning */
+    pair((const record[]){a, b, a, b, other}, 2, 5);        /* 16 of the newer */
+    for (uint64_t bits = 0; bits < 8; bits++)
+        for (uint64_t spoiled = 0; spoiled < 16; spoiled++)
+            seed(ADDED, SMALL, WITH(2, spoiled, spoiled / 2, bits), list, len);
+    for (unsigned many = 0; many < 255 / SHAPES; many += 7)
+        seed(ADDED, MANY + SHAPES * many, WITH(100 * many), list, len);
+    seed(ADDED, AS_IS, WITH(len / 2 + 1), list, len); /* 1 */
+}
+
 /* A slice under zeros at every second byte: as many runs as the slice has bytes. */
 static void combs(void)
 {
@@ -213,6 +250,7 @@ int main(int argc, char **argv)
     single_records();
     small_lists();
     views();
+    pairs();
     combs();
     names();
     keys();

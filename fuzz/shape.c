@@ -92,11 +92,10 @@ static void shape_numbers(call *call, enum shape shape)
     }
 }
 
-/* One byte changed, some cut off, or two records exchanged; or nothing. */
-static void spoil_view(call *call, uint8_t *bytes, uint64_t choice)
+void spoil_records(uint8_t *bytes, size_t *length, uint64_t choice)
 {
     uint8_t kept[EZK_RECORD], *one = bytes, *other = bytes;
-    size_t len = call->len, records = len / EZK_RECORD;
+    size_t len = *length, records = len / EZK_RECORD;
     uint64_t which = choice / 4;
     if (!records)
         return;
@@ -105,7 +104,7 @@ static void spoil_view(call *call, uint8_t *bytes, uint64_t choice)
         bytes[which % len] = (uint8_t)(choice >> 56);
         return;
     case 1:
-        call->len -= which % 2 ? which % (len + 1) : which % (records + 1) * EZK_RECORD;
+        *length -= which % 2 ? which % (len + 1) : which % (records + 1) * EZK_RECORD;
         return;
     case 2:
         one += which % records * EZK_RECORD;
@@ -131,7 +130,7 @@ static void shape_view(call *call, uint8_t *bytes, enum shape shape)
         memcpy(bytes, view.written[0], call->len);
     }
     done_with(&view);
-    spoil_view(call, bytes, call->number[3]);
+    spoil_records(bytes, &call->len, call->number[3]);
 }
 
 /* What the writer makes of the numbers, then the given bytes in pairs: a place and a byte. */
@@ -173,6 +172,7 @@ void give_shape(call *call, uint8_t *bytes, uint8_t choice)
     case TIDY:
     case READ_PLAN:
     case COMPACT:
+    case ADDED:
         shape_list(call, bytes, shape, choice / SHAPES * RECORDS_MAX / (255 / SHAPES));
         if (call->kind == FIND)
             shape_view(call, bytes, shape);

@@ -12,4 +12,10 @@ enum { VIEW_MAX = (2 * LIST_RECORDS + 1) * EZK_RECORD };
 /* Gives the call the shape that the choice stands for. `bytes`, of VIEW_MAX, are its bytes. */
 void give_shape(call *call, uint8_t *bytes, uint8_t choice);
 
+/* Gives a call of ADDED, whose bytes have this shape, an older list. */
+void give_older(call *call, uint8_t *bytes, uint8_t choice);
+
+/* One byte changed, some cut off, or two records exchanged; or nothing. */
+void spoil_records(uint8_t *bytes, size_t *len, uint64_t choice);
+
 #endif
