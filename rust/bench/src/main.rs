@@ -5,9 +5,11 @@
 //! many rounds in which the programs take turns, so that ratios hold on a busy machine too.
 
 mod clock;
+mod history;
 mod library;
 mod measure;
 mod orders;
+mod pairs;
 mod record;
 mod report;
 mod shapes;

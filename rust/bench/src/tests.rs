@@ -1,5 +1,7 @@
 //! The programs that the archive is timed against must be right themselves.
 
+mod pairs;
+
 use rng::Rng;
 
 use crate::library::find;

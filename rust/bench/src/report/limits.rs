@@ -2,7 +2,9 @@
 
 use crate::report::spread::{select, Spread};
 use crate::report::{number, table as table_of, thousands};
-use crate::timed::{Row, Who, COMPACT, PLAN, SIZES, SMALL_PLAN, TIDY, VIEW};
+use crate::timed::{
+    added, comparison, Row, Who, ADDED, BEGINS, COMPACT, PLAN, SIZES, SMALL_PLAN, TIDY, VIEW,
+};
 
 struct Limit {
     what: String,
@@ -52,6 +54,9 @@ fn limits(rows: &[Row]) -> Vec<Limit> {
     ];
     limits.extend([VIEW, TIDY, PLAN, SMALL_PLAN, COMPACT].map(|call| growth(rows, call)));
     limits.extend([VIEW, TIDY, PLAN, SMALL_PLAN, COMPACT].map(|call| fits(rows, call)));
+    let checks = (Who::Checks, "two checks");
+    limits.extend(ADDED.map(|call| over(rows, call, &added::LENGTHS, checks, 1.2)));
+    limits.push(over(rows, BEGINS, &comparison::LENGTHS, (Who::Best, "`starts_with`"), 4.0));
     limits
 }
 

@@ -1,6 +1,7 @@
 //! What was measured, as tables that a reader can take in, and a picture.
 
 mod calls;
+mod history;
 mod limits;
 mod others;
 mod picture;
@@ -18,6 +19,8 @@ pub fn files(rows: &[Row]) -> Vec<(&'static str, String)> {
         ("fits.md", calls::fits(rows)),
         ("find.md", others::find(rows)),
         ("check.md", others::check(rows)),
+        ("added.md", history::added(rows)),
+        ("comparison.md", history::comparison(rows)),
         ("texts.md", others::texts(rows)),
         ("performance.svg", picture::svg(rows)),
     ]

@@ -5,7 +5,7 @@ use crate::measure::{program, Program};
 use crate::record::RECORD;
 use crate::shapes::{Shape, SHAPES};
 use crate::timed::same::{buffers, same, Counts, Writer};
-use crate::timed::{Row, Who, COMPACT, PLAN, SHORT, SIZES, SMALL_PLAN, TIDY, VIEW};
+use crate::timed::{how_many, Row, Who, COMPACT, PLAN, SHORT, SIZES, SMALL_PLAN, TIDY, VIEW};
 use crate::yard::compact::{compact, Order};
 use crate::yard::plan::read_plan;
 use crate::yard::view::{tidy, view};
@@ -72,11 +72,6 @@ fn row(
         writers.into_iter().map(|(who, write)| (who, spare(write))).collect();
     programs.push((Who::Fits, fitting(by_library(NOW, call))));
     Ok(Some(Row::timed((name, shape.name, records), &inputs, programs)))
-}
-
-/// Enough lists that no branch is learnt by heart.
-fn how_many(records: usize) -> usize {
-    (4_000 / records).clamp(4, 64)
 }
 
 /// With room to spare.

@@ -1,7 +1,9 @@
 //! What is timed: first all programs must agree, then each is measured.
 
+pub mod added;
 mod calls;
 mod check;
+pub mod comparison;
 mod row;
 mod same;
 mod seek;
@@ -21,6 +23,14 @@ pub const SMALL_PLAN: &str = "read plan, blocks of 64 KiB";
 pub const COMPACT: &str = "compaction";
 pub const FIND: &str = "find";
 pub const CHECK: &str = "check";
+/// `ezk_added`, by how the newer list came from the older one.
+pub const ADDED: [&str; 4] = [
+    "added, one record more",
+    "added, equal lists",
+    "added, first byte rewritten",
+    "added, last byte rewritten",
+];
+pub const BEGINS: &str = "comparison";
 pub const NAMES: &str = "full name";
 pub const KEYS: &str = "chunk keys";
 
@@ -29,6 +39,13 @@ pub fn all() -> Result<Vec<Row>, String> {
     let mut rows = calls::rows()?;
     rows.extend(seek::rows()?);
     rows.extend(check::rows()?);
+    rows.extend(added::rows()?);
+    rows.extend(comparison::rows()?);
     rows.extend(texts::rows()?);
     Ok(rows)
+}
+
+/// Enough lists that no branch is learnt by heart.
+fn how_many(records: usize) -> usize {
+    (4_000 / records).clamp(4, 64)
 }

@@ -21,6 +21,8 @@ pub enum Who {
     Walk,
     /// The check of refusals 1 to 6 alone.
     Six,
+    /// The checks of an older and a newer list alone.
+    Checks,
 }
 
 pub struct Row {
