@@ -1,23 +1,10 @@
 //! The archive's call on an older and a newer list, and its comparison alone.
 
-use ezumokarin::sys::ezk_check;
+use ezumokarin::sys::{ezk_added, ezk_check};
+
+pub use ezumokarin::sys::ezk_part as Part;
 
 type In = *const u8;
-
-/// What `ezk_added` returns.
-#[repr(C)]
-#[derive(Clone, Copy, Debug, PartialEq, Eq)]
-pub struct Part {
-    pub refusal: u64,
-    pub place: u64,
-    pub rewritten: u64,
-    pub offset: u64,
-    pub length: u64,
-}
-
-extern "C" {
-    fn ezk_added(older: In, older_len: usize, newer: In, newer_len: usize) -> Part;
-}
 
 // Safe because a slice is a pointer and a length that are good for the whole call.
 #[inline]

@@ -4,7 +4,7 @@ use Prim.Native.Nat.{ℕ, _+_, _≤_}
 use native.Mathlib.Omega.{arith}
 use mathlib.Core.Path.{_≡_, refl, sym, ap, _∙_}
 use mathlib.Core.Bool.{Bool, true, false, false≢true}
-use mathlib.Core.List.{List, _∷_}
+use mathlib.Core.List.{List, _∷_, _++_}
 use Rattle.slices.specs.Cover.{cover, covers, over, layer}
 use Rattle.slices.proofs.Laws.Cover.{over-nothing-left, over-nothing-right, over-assoc, cover-append, covers-range, layer-not}
 use Rattle.history.specs.Exchange.{Apart, Exchange}
@@ -30,6 +30,11 @@ ranges-apart r s l p h = covers-not s p (λ g. absurd (let a = covers-range r p 
 -- an empty record shares no byte with any other
 pub empty-apart : (r s : Record) → r .len ≡ 0 → Apart r s
 empty-apart r s e p h = absurd (let a = covers-range r p h in omega arith)
+
+-- ---- two neighbours
+
+pub neighbours-exchange : (before after : List Record) (r s : Record) → Apart r s → Exchange (before ++ (r ∷ s ∷ after)) (before ++ (s ∷ r ∷ after))
+neighbours-exchange before after r s a = record { before = before; after = after; first = r; second = s; apart = a; from = refl; to = refl }
 
 -- ---- the cover stays
 

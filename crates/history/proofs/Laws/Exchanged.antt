@@ -1,8 +1,8 @@
 -- Any number of exchanges: one after the other, and back again; an empty record goes past everything. Assumes nothing.
-use mathlib.Core.Path.{_≡_, refl}
+use mathlib.Core.Path.{_≡_}
 use mathlib.Core.List.{List, [], _∷_, _++_, append-assoc}
 use Rattle.history.specs.Exchange.{Exchange, Exchanged, unchanged, once-more}
-use Rattle.history.proofs.Laws.Exchange.{apart-sym, empty-apart}
+use Rattle.history.proofs.Laws.Exchange.{apart-sym, empty-apart, neighbours-exchange}
 use Rattle.slices.specs.declared.Record.{Record}
 
 -- ---- one after the other, and back
@@ -34,7 +34,7 @@ pub empty-past : (r : Record) → r .len ≡ 0 → (xs ys zs : List Record) → 
 empty-past r e xs [] zs = unchanged
 empty-past r e xs (y ∷ ys) zs =
     exchanged-then (xs ++ (r ∷ y ∷ (ys ++ zs))) (xs ++ (y ∷ r ∷ (ys ++ zs))) (xs ++ (y ∷ (ys ++ (r ∷ zs))))
-    (once-more unchanged (record { before = xs; after = ys ++ zs; first = r; second = y; apart = empty-apart r y e; from = refl; to = refl }))
+    (once-more unchanged (neighbours-exchange xs (ys ++ zs) r y (empty-apart r y e)))
     (behind (empty-past r e (xs ++ (y ∷ [])) ys zs))
   where
     behind : Exchanged ((xs ++ (y ∷ [])) ++ (r ∷ (ys ++ zs))) ((xs ++ (y ∷ [])) ++ (ys ++ (r ∷ zs))) → Exchanged (xs ++ (y ∷ r ∷ (ys ++ zs))) (xs ++ (y ∷ (ys ++ (r ∷ zs))))
