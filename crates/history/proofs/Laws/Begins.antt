@@ -86,8 +86,8 @@ module _ (xs ys : List ℕ) (g i j : ℕ) (t : Bool) (a : UpTo xs ys g i true) (
   pub up-to-more : t ≡ true → UpTo xs ys g j true
   up-to-more e = a ∙ b ∙ rw e
 
-  pub up-to-differs : t ≡ false → (k : ℕ) → UpTo xs ys g k false
-  up-to-differs e k = a ∙ b ∙ rw e
+  pub up-to-differs : t ≡ false → begins (drop g xs) (drop g ys) ≡ false
+  up-to-differs e = a ∙ b ∙ rw e
 
 -- ---- what it means
 

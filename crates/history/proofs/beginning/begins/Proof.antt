@@ -63,25 +63,26 @@ same-requires c κs = simp (length-take, length-drop) (omega (arith, c .before .
 loop-less : tie.Need-loop-less Inv-loop μ-loop
 loop-less c = search needs
 
+-- the part that was compared
+compared : (c : tie.After-same Inv-loop μ-loop)
+    → let l = c .before .before .before .before .before in
+    let a = l .before .before .before .before .before .before .before .args in
+    UpTo (now (a .older)) (now (a .newer)) (l .loop .i) (c .before .before .before .next-end .result) (c .same .result)
+compared c =
+    let end = c .before .before .before .next-end in
+    part-up-to _ _ _ _ (omega (arith, end .ensures .0)) (end .ensures .1) (omega arith) _ (c .same .ensures)
+
 loop-again : tie.Need-loop-again Inv-loop μ-loop
 loop-again c =
     let end = c .before .before .before .before .next-end in
     let l = c .before .before .before .before .before .before in
-    let a = l .before .before .before .before .before .before .before .args in
-    let o = now (a .older) in
-    let n = now (a .newer) in
-    let b = part-up-to o n (l .loop .i) (end .result) (omega (arith, end .ensures .0)) (end .ensures .1) (omega arith) (c .before .same .result) (c .before .same .ensures) in
-    (up-to-more o n 0 (l .loop .i) (end .result) _ (l .loop .inv .0) b (c .if3 .taken), end .ensures .1)
+    (up-to-more _ _ 0 (l .loop .i) (end .result) _ (l .loop .inv .0) (compared (c .before)) (c .if3 .taken), end .ensures .1)
 
 returns-3 : tie.Need-returns-3 Inv-loop μ-loop
 returns-3 c =
     let end = c .before .before .before .before .next-end in
     let l = c .before .before .before .before .before .before in
-    let a = l .before .before .before .before .before .before .before .args in
-    let o = now (a .older) in
-    let n = now (a .newer) in
-    let b = part-up-to o n (l .loop .i) (end .result) (omega (arith, end .ensures .0)) (end .ensures .1) (omega arith) (c .before .same .result) (c .before .same .ensures) in
-    sym (up-to-differs o n 0 (l .loop .i) (end .result) _ (l .loop .inv .0) b (c .if3 .left) 0)
+    sym (up-to-differs _ _ 0 (l .loop .i) (end .result) _ (l .loop .inv .0) (compared (c .before)) (c .if3 .left))
 
 returns-4 : tie.Need-returns-4 Inv-loop μ-loop
 returns-4 c =

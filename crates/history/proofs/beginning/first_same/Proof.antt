@@ -54,26 +54,31 @@ add-k c = search needs
 loop-less : tie.Need-loop-less Inv-loop μ-loop
 loop-less c = search needs
 
+-- the record that was compared
+compared : (c : tie.After-same Inv-loop μ-loop)
+    → let l = c .before .before .before .before in
+    let a = l .before .before .before .args in
+    UpTo (now (a .older)) (now (a .newer)) (l .loop .k * recordSize) (l .loop .k * recordSize + recordSize) (c .same .result)
+compared c =
+    let l = c .before .before .before .before in
+    let s = l .before .before .before in
+    let i = l .loop .k * recordSize in
+    part-up-to (now (s .args .older)) _ i (i + recordSize) (omega arith) (omega (arith, s .pre .0)) (s .pre .1) _ (c .same .ensures)
+
 loop-again : tie.Need-loop-again Inv-loop μ-loop
 loop-again c =
     let l = c .before .before .before .before .before in
-    let s = l .before .before .before in
-    let o = now (s .args .older) in
-    let n = now (s .args .newer) in
+    let a = l .before .before .before .args in
     let i = l .loop .k * recordSize in
     let e : i + recordSize ≡ (l .loop .k + 1) * recordSize = omega arith in
-    let b = part-up-to o n i (i + recordSize) (omega arith) (omega (arith, s .pre .0)) (s .pre .1) (c .before .same .result) (c .before .same .ensures) in
-    (subst (λ (j : ℕ). UpTo o n 0 j true) e (up-to-more o n 0 i (i + recordSize) _ (l .loop .inv .0) b (c .if1 .taken)), omega arith)
+    let b = up-to-more _ _ 0 i (i + recordSize) _ (l .loop .inv .0) (compared (c .before)) (c .if1 .taken) in
+    (subst (λ (j : ℕ). UpTo (now (a .older)) (now (a .newer)) 0 j true) e b, omega arith)
 
 returns : tie.Need-returns Inv-loop μ-loop
 returns c =
     let l = c .before .before .before .before .before in
-    let s = l .before .before .before in
-    let o = now (s .args .older) in
-    let n = now (s .args .newer) in
     let i = l .loop .k * recordSize in
-    let b = part-up-to o n i (i + recordSize) (omega arith) (omega (arith, s .pre .0)) (s .pre .1) (c .before .same .result) (c .before .same .ensures) in
-    up-to-differs o n 0 i (i + recordSize) _ (l .loop .inv .0) b (c .if1 .left) (s .args .m * recordSize)
+    up-to-differs _ _ 0 i (i + recordSize) _ (l .loop .inv .0) (compared (c .before)) (c .if1 .left)
 
 returns-2 : tie.Need-returns-2 Inv-loop μ-loop
 returns-2 c =
