@@ -13,6 +13,7 @@
  * Refusals. `place` is the place of the record in its list, counted from 0, for 3 to 6 and
  * 16; for all others it is 0. Where several fit, the first in this order is given:
  * 7, 8, 1, 2, then the first bad record and in it 3, 4, 5, 6; then 16, 10, 9, 13, 11, 12.
+ * ezk_added goes through it once for the older list, and only then for the newer.
  * A block size is allowed if it is a power of two from 65,536 to 16,777,216.
  *
  *   EZK_LIST_LENGTH     1  list length is no multiple of 24

@@ -5,6 +5,7 @@ use std::fmt;
 
 /// Why a call gave no answer. Where several fit, the library gives the first in this order:
 /// 7, 8, 1, 2, then the first bad record and in it 3, 4, 5, 6; then 16, 10, 9, 13, 11, 12.
+/// [`added`](crate::added()) goes through it once for the older list, and only then for the newer.
 ///
 /// `place` is the place of the record in its list, counted from 0.
 ///

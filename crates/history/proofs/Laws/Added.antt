@@ -42,21 +42,43 @@ module _ (older rest newer : List ℕ) (e : older ++ rest ≡ newer) (d : Bytes 
       ap records (sym e)
       ∙ records-append older rest (all-left _ older rest both-bytes) (all-right _ older rest both-bytes) a rest-whole
 
-  -- what stands behind is a list of its own
-  rest-accepts : Accepts newer → Accepts rest
-  unfolding count
-  rest-accepts h =
-      let sizes = sizesOf (records newer) in
-      let p : All Passes (records older ++ records rest) = rw (← records-split) (h .pass) in
-      let t : All (Sized sizes) (records older ++ records rest) = rw (← records-split) (one-size-table (records newer) (h .one-size)) in
-      record {
-        whole = rest-whole;
-        few = omega (arith, sum, h .few);
-        pass = all-right Passes (records older) (records rest) p;
-        one-size = table-one-size sizes (records rest) (all-right (Sized sizes) (records older) (records rest) t);
-      }
+  module _ (h : Accepts newer) where
+    abbrev sizes : ℕ → ℕ
+    sizes = sizesOf (records newer)
+
+    passes : All Passes (records older ++ records rest)
+    passes = rw (← records-split) (h .pass)
+
+    sized : All (Sized sizes) (records older ++ records rest)
+    sized = rw (← records-split) (one-size-table (records newer) (h .one-size))
+
+    -- where the whole is accepted, so is what stands in front
+    front-accepts : Accepts older
+    unfolding count
+    front-accepts =
+        record {
+          whole = a;
+          few = omega (arith, sum, h .few);
+          pass = all-left Passes (records older) (records rest) passes;
+          one-size = table-one-size sizes (records older) (all-left (Sized sizes) (records older) (records rest) sized);
+        }
+
+    -- and what stands behind
+    rest-accepts : Accepts rest
+    unfolding count
+    rest-accepts =
+        record {
+          whole = rest-whole;
+          few = omega (arith, sum, h .few);
+          pass = all-right Passes (records older) (records rest) passes;
+          one-size = table-one-size sizes (records rest) (all-right (Sized sizes) (records older) (records rest) sized);
+        }
 
 module _ (older newer : List ℕ) where
+  -- a beginning of an accepted list, in whole records, is accepted
+  pub beginning-accepts : Bytes newer → length older % recordSize ≡ 0 → Continues older newer → Accepts newer → Accepts older
+  beginning-accepts d a c n = front-accepts older (c .rest) newer (c .whole) d a (n .whole) n
+
   -- of two accepted lists the older is a beginning by its bytes exactly where it is one by its records
   module _ (d : Bytes newer) (b : Bytes older) (a : Accepts older) (n : Accepts newer) where
     split-begins : Continues (records older) (records newer) → begins older newer ≡ true
