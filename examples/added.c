@@ -9,9 +9,9 @@ enum { LENGTH = 12, ROOM = 3 * EZK_RECORD };
 #define RECORD(pos, id, len)                                                                     \
     0, 0, 0, pos,  0, 0, 0, 0, 0, 0, 0, id,  0, 0, 0, (id) ? (len) : 0,  0, 0, 0, 0,  0, 0, 0, len
 
-/* The list as records are appended; and once its first two were compacted into slice 9. */
+/* The list as records are appended; and another in its place, which covers less. */
 static const uint8_t before[ROOM] = {RECORD(0, 7, 6), RECORD(4, 8, 4), RECORD(2, 0, 2)};
-static const uint8_t after[ROOM] = {RECORD(0, 9, 8), RECORD(2, 0, 2), RECORD(10, 5, 2)};
+static const uint8_t after[ROOM] = {RECORD(0, 9, 6), RECORD(2, 0, 2), RECORD(10, 5, 2)};
 
 /* What the host knows: the list as it was last, and a sign for the source of each byte. */
 typedef struct known {

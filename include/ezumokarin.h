@@ -122,7 +122,7 @@ typedef struct ezk_compacted {
 typedef struct ezk_part {
     uint64_t refusal;
     uint64_t place;
-    uint64_t rewritten; /* 1 if the older list is no beginning of the newer, else 0 */
+    uint64_t rewritten; /* 1 if the list was rewritten, else 0, also on a refusal */
     uint64_t offset;    /* where the part starts in the newer list, in bytes */
     uint64_t length;    /* its bytes */
 } ezk_part;

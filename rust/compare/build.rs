@@ -1,6 +1,7 @@
 //! Compiles header.c against the project's C header, or against the one in the folder
-//! EZUMOKARIN_INCLUDE (an absolute path), so that a changed header can be tried. EZUMOKARIN_SPOIL
-//! holds C that header.c runs on every view, so that the comparison can be tried.
+//! EZUMOKARIN_INCLUDE (an absolute path), so that a changed header can be tried.
+//! EZUMOKARIN_SPOIL_VIEW and EZUMOKARIN_SPOIL_PART hold C that header.c runs on every answer of
+//! their calls, so that the comparison can be tried.
 
 use std::env;
 use std::path::PathBuf;
@@ -15,21 +16,25 @@ fn main() {
     };
     let (source, object) = (here.join("header.c"), made.join("header.o"));
     let archive = made.join("libheader.a");
-    let spoil = env::var("EZUMOKARIN_SPOIL").unwrap_or_default();
     println!("cargo:rerun-if-env-changed=EZUMOKARIN_INCLUDE");
-    println!("cargo:rerun-if-env-changed=EZUMOKARIN_SPOIL");
     println!("cargo:rerun-if-changed={}", source.display());
     println!("cargo:rerun-if-changed={}", include.join("ezumokarin.h").display());
     run(Command::new("gcc")
         .args(["-std=c11", "-O2", "-Wall", "-Wextra", "-Wconversion", "-Werror", "-c", "-I"])
         .arg(&include)
-        .arg(format!("-DSPOIL_VIEW={spoil}"))
+        .args(["VIEW", "PART"].map(spoiling))
         .arg(&source)
         .arg("-o")
         .arg(&object));
     run(Command::new("ar").arg("rcs").arg(&archive).arg(&object));
     println!("cargo:rustc-link-search=native={}", made.display());
     println!("cargo:rustc-link-lib=static=header");
+}
+
+fn spoiling(answer: &str) -> String {
+    let name = format!("EZUMOKARIN_SPOIL_{answer}");
+    println!("cargo:rerun-if-env-changed={name}");
+    format!("-DSPOIL_{answer}={}", env::var(name).unwrap_or_default())
 }
 
 fn run(command: &mut Command) {

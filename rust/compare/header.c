@@ -13,6 +13,9 @@
  * What is done to a view and its answer `a` before they are compared: nothing, or what build.rs is
  * told, so that tools/check-header can see that the comparison finds a spoiled answer.
  */
+#ifndef SPOIL_PART
+#define SPOIL_PART
+#endif
 #ifndef SPOIL_VIEW
 #define SPOIL_VIEW
 #endif
@@ -199,7 +202,9 @@ void via_compact(const uint8_t *list, size_t list_len, uint64_t block_size, uint
 void via_added(const uint8_t *older, size_t older_len, const uint8_t *newer, size_t newer_len,
                uint64_t *to)
 {
-    part(ezk_added(older, older_len, newer, newer_len), to);
+    ezk_part a = ezk_added(older, older_len, newer, newer_len);
+    SPOIL_PART
+    part(a, to);
 }
 
 void via_write_object_name(uint64_t id, uint64_t block, uint64_t length, uint8_t *out,

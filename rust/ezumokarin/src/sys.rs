@@ -63,7 +63,7 @@ pub struct ezk_part {
     pub refusal: u64,
     /// The place of the refused record in its list, for refusals 3 to 6 and 16.
     pub place: u64,
-    /// 1 if the older list is no beginning of the newer, else 0.
+    /// 1 if the list was rewritten, else 0, also on a refusal.
     pub rewritten: u64,
     /// Where the part starts in the newer list, in bytes.
     pub offset: u64,
