@@ -11,7 +11,8 @@ use Rattle.outcomes.specs.Numbers.{notOfForm}
 use Rattle.outcomes.specs.Outcome.{Outcome, done, row, firstOf}
 use Rattle.outcomes.specs.Answers.{answerOf}
 use Rattle.texts.specs.Limits.{maxNumber}
-use Rattle.keys.specs.Limits.{maxIndex, tkvSize}
+use Rattle.slices.specs.Limits.{maxIndex}
+use Rattle.keys.specs.Limits.{tkvSize}
 use Rattle.keys.specs.Words.{smallC, capitalA, capitalC}
 use Rattle.texts.specs.Words.{underscore}
 use Rattle.texts.specs.Parts.{Part, word, within, scan}

@@ -7,6 +7,7 @@ use codec::scan::Step;
 use outcomes::Answer;
 use outcomes::Refusal;
 use outcomes::refusals;
+use slices::MAX_INDEX;
 use texts::MAX_NUMBER;
 use texts::scan;
 use texts::text;
@@ -40,7 +41,7 @@ fn put_redis(line: &mut [u8], inode: u64, index: u64) -> usize
 pub fn write_redis_key(inode: u64, index: u64, out: &mut [u8]) -> Answer
     ensures { λ r. ⌜ Answers (writeRedis inode index (length (now (out .entry)))) (now (out .entry)) r (now (out .exit)) ⌝ }
 {
-    if limits::MAX_INDEX < index {
+    if MAX_INDEX < index {
         return Answer::Refused(refusals::refusal(refusals::NOT_OF_FORM));
     }
     let mut line = [0u8; limits::REDIS_ROOM];
@@ -56,7 +57,7 @@ pub fn read_redis_key(key: &[u8]) -> ChunkKey
     let letter = scan::word_after(key, start, b"c");
     let inode = scan::number_after(key, letter, 0, MAX_NUMBER);
     let bar = scan::word_after(key, inode, b"_");
-    let index = scan::number_after(key, bar, 0, limits::MAX_INDEX);
+    let index = scan::number_after(key, bar, 0, MAX_INDEX);
     match scan::end_after(key, index) {
         Step::Next { at: _, value: _ } => ChunkKey::Key {
             inode: scan::value_of(inode),
@@ -81,7 +82,7 @@ fn put_tkv(line: &mut [u8], inode: u64, index: u32)
 pub fn write_tkv_key(inode: u64, index: u64, out: &mut [u8]) -> Answer
     ensures { λ r. ⌜ Answers (writeTkv inode index (length (now (out .entry)))) (now (out .entry)) r (now (out .exit)) ⌝ }
 {
-    if limits::MAX_INDEX < index {
+    if MAX_INDEX < index {
         return Answer::Refused(refusals::refusal(refusals::NOT_OF_FORM));
     }
     let mut line = [0u8; limits::TKV];

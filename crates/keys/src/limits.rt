@@ -1,9 +1,6 @@
 // The limits on chunk keys, and the room that they take.
 use codec::decimal::DIGITS;
 
-// The largest index of a chunk.
-pub(crate) const MAX_INDEX: u64 = 4294967295;
-
 // Room for a Redis key: two words, two numbers.
 pub(crate) const REDIS_ROOM: usize = 2 + 2 * DIGITS;
 

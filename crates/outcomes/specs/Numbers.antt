@@ -56,3 +56,7 @@ notOfForm = 13
 -- an earlier record has this id, not 0, and another size
 abbrev pub twoSizes : ℕ
 twoSizes = 16
+
+-- another number of lists than 1 to 16, lengths that don't add up to the bytes lent, or an index past 32 bits
+abbrev pub wrongChunks : ℕ
+wrongChunks = 21

@@ -45,6 +45,9 @@ pub const NOT_OF_FORM: u8 = 13;
 // An earlier record has this id, not 0, and another size.
 pub const TWO_SIZES: u8 = 16;
 
+// There are other than 1 to 16 lists, their lengths do not add up to the bytes lent, or an index is past 32 bits.
+pub const WRONG_CHUNKS: u8 = 21;
+
 // The refusal of a call as a whole, at place 0.
 pub fn refusal(number: u8) -> Refusal
     ensures { λ r. ⌜ r ≡ refusal number 0 ⌝ }

@@ -1,10 +1,10 @@
 -- Inner: what the steps of the code find. It serves the contracts of inner functions alone. Assumes nothing.
-use Prim.Native.Nat.{ℕ, _+_, _-_, _^_, _<_, _≤_}
+use Prim.Native.Nat.{ℕ, _+_, _-_, _/_, _%_, _^_, _<_, _≤_}
 use mathlib.Core.Path.{_≡_}
 use mathlib.Core.List.{List, _++_, map}
 use Rattle.codec.specs.Fixed.{bigEndian}
 use Rattle.views.specs.Inner.{shift}
-use Rattle.plans.specs.Location.{location, locationAt, nextLocation, onward}
+use Rattle.plans.specs.Location.{Site, location, locationAt, nextLocation, onward}
 use Rattle.plans.specs.Plan.{cutTo}
 use Rattle.slices.specs.declared.Record.{Record}
 use Rattle.slices.specs.declared.Source.{Source}
@@ -13,7 +13,7 @@ use Rattle.runs.specs.Runs.{Run, runs}
 use Rattle.runs.specs.Inner.{earlier}
 use Rattle.plans.specs.declared.Location.{Location}
 use Rattle.plans.specs.declared.Location.the-variants.{Hole, In}
-use Rattle.plans.specs.Piece.{objectMark, zerosMark}
+use Rattle.plans.specs.Piece.{objectMark, zerosMark, inChunk, chunkBytes}
 
 -- a byte of a slice lies inside it
 abbrev pub Inside : Source → Type 0
@@ -46,9 +46,13 @@ unfoldable pub markOf : Location → ℕ
 markOf Hole = zerosMark
 markOf (In i b l a) = objectMark
 
+-- the bytes of a chunk's runs, where the chunk's index and the places before it are the halves of a number of 8 bytes
+abbrev pub frontBytes : ℕ → List (Run Location) → List ℕ
+frontBytes front rs = chunkBytes (front / 2 ^ 32) (front % 2 ^ 32) rs
+
 -- of the plan of the positions from `from` up to `end`, the runs from position p on
-unfoldable pub piecesLeft : ℕ → List Record → (from end p : ℕ) → List (Run Location)
-piecesLeft B rs from end p = map (earlier from) (runs nextLocation (locationAt B rs) p (end - p))
+unfoldable pub piecesLeft : ℕ → List Record → (front from end p : ℕ) → List (Run Site)
+piecesLeft B rs front from end p = map (inChunk (front / 2 ^ 32) (front % 2 ^ 32)) (map (earlier from) (runs nextLocation (locationAt B rs) p (end - p)))
 
 -- a read of `count` bytes from `start`, for a chunk of l bytes, goes from `from` up to `end`
 pub record Cut (l start count from end : ℕ) : Type 0 where

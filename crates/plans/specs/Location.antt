@@ -29,6 +29,15 @@ nextLocation Hole (In j c m t) = false
 nextLocation (In i b l a) Hole = false
 nextLocation (In i b l a) (In j c m t) = eqb i j && (eqb b c && (eqb l m && eqb t (a + 1)))
 
+-- where a byte of a file lies: the index of its chunk, and where in the store
+pub record Site : Type 0 where
+  pub index : ℕ
+  pub location : Location
+
+-- b continues a at the place after it: both are of one chunk, and the locations go on
+unfoldable pub nextSite : Site → Site → Bool
+nextSite a b = eqb (a .index) (b .index) && nextLocation (a .location) (b .location)
+
 -- the location k bytes on in one run
 unfoldable pub onward : Location → ℕ → Location
 onward Hole k = Hole

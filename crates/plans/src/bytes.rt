@@ -7,7 +7,7 @@ ghost use mathlib.Core.Path.{_≡_};
 ghost use mathlib.Core.Bool.{true, cond};
 ghost use mathlib.Core.Logic.{_≢_};
 ghost use mathlib.Core.List.{_++_};
-ghost use Prim.Native.Nat.{_+_, _*_, _<_, _≤_};
+ghost use Prim.Native.Nat.{_+_, _*_, _/_, _%_, _^_, _<_, _≤_};
 ghost use lib.ListN.{length};
 ghost use Rattle.codec.specs.All.{All};
 ghost use Rattle.codec.specs.Fixed.{bigEndian};
@@ -37,12 +37,12 @@ fn write_mark(out: &mut [u8], to: usize, mark: u16)
     out[to + 1] = (mark % 256) as u8;
 }
 
-// Puts the mark and the place in the read.
-fn put_front(mark: u16, place: u32, out: &mut [u8], to: usize)
-    requires { ⌜ to + 6 ≤ length (now out) ⌝ }
-    ensures { λ _. ⌜ now (out .exit) ≡ splice (now (out .entry)) to (bigEndian 2 mark ++ bigEndian 4 place) ⌝ }
+// Puts the mark, and the chunk index and the place in the read, which are the halves of `front`.
+fn put_front(mark: u16, front: u64, out: &mut [u8], to: usize)
+    requires { ⌜ to + 10 ≤ length (now out) ⌝ }
+    ensures { λ _. ⌜ now (out .exit) ≡ splice (now (out .entry)) to (bigEndian 2 mark ++ bigEndian 8 front) ⌝ }
 {
-    fixed::write_be32(out, to + 2, place);
+    fixed::write_be64(out, to + 2, front);
     write_mark(out, to, mark);
 }
 
@@ -70,12 +70,13 @@ fn put_object(list: &[u8], i: usize, p: u32, block: u32, bits: u32, out: &mut [u
     fixed::write_be32(out, to + 16, objects::place_at(list, i, p, block, bits));
 }
 
-// Puts the piece of len positions from p on, at a place of the read, where the record `top`, counted from 1, lies on top of p.
+// Puts the piece of len positions from p on, where the record `top`, counted from 1, lies on top of p. The halves of `front` are the chunk index and
+// the place in the read: so they go in one store.
 fn put_piece(
     list: &[u8],
     top: u16,
     p: u32,
-    place: u32,
+    front: u64,
     len: u32,
     block: u32,
     bits: u32,
@@ -85,16 +86,16 @@ fn put_piece(
     requires { ⌜ All Passes (records (now list)) × Shifts block bits ⌝ }
     requires { ⌜ OnTop (now list) top p (p + 1) ⌝ }
     requires { ⌜ to + pieceSize ≤ length (now out) ⌝ }
-    ensures { λ _. ⌜ now (out .exit) ≡ splice (now (out .entry)) to (encodePiece (pieceOf place len (locationAt block (records (now (list .entry))) p))) ⌝ }
+    ensures { λ _. ⌜ now (out .exit) ≡ splice (now (out .entry)) to (encodePiece (pieceOf (front / 2 ^ 32) (front % 2 ^ 32) len (locationAt block (records (now (list .entry))) p))) ⌝ }
 {
-    fixed::write_be32(out, to + 26, len);
+    fixed::write_be32(out, to + 30, len);
     if tops::id_on(list, top) == 0 {
-        put_front(ZEROS, place, out, to);
-        put_nothing(out, to + 6);
+        put_front(ZEROS, front, out, to);
+        put_nothing(out, to + 10);
         return;
     }
-    put_front(OBJECT, place, out, to);
-    put_object(list, tops::wide(top) - 1, p, block, bits, out, to + 6);
+    put_front(OBJECT, front, out, to);
+    put_object(list, tops::wide(top) - 1, p, block, bits, out, to + 10);
 }
 
 // The same where it is to be written; else the buffer stays.
@@ -103,7 +104,7 @@ pub(crate) fn put_if(
     list: &[u8],
     top: u16,
     p: u32,
-    place: u32,
+    front: u64,
     len: u32,
     block: u32,
     bits: u32,
@@ -113,9 +114,9 @@ pub(crate) fn put_if(
     requires { ⌜ All Passes (records (now list)) × Shifts block bits ⌝ }
     requires { ⌜ OnTop (now list) top p (p + 1) ⌝ }
     requires { ⌜ (write ≡ true → to + pieceSize ≤ length (now out)) ⌝ }
-    ensures { λ _. ⌜ now (out .exit) ≡ cond write (splice (now (out .entry)) to (encodePiece (pieceOf place len (locationAt block (records (now (list .entry))) p)))) (now (out .entry)) ⌝ }
+    ensures { λ _. ⌜ now (out .exit) ≡ cond write (splice (now (out .entry)) to (encodePiece (pieceOf (front / 2 ^ 32) (front % 2 ^ 32) len (locationAt block (records (now (list .entry))) p)))) (now (out .entry)) ⌝ }
 {
     if write {
-        put_piece(list, top, p, place, len, block, bits, out, to);
+        put_piece(list, top, p, front, len, block, bits, out, to);
     }
 }

@@ -5,13 +5,14 @@ mod objects;
 mod reach;
 pub mod rooms;
 mod shifts;
-mod walk;
+pub mod walk;
 
 use blocks::block_allowed;
 use outcomes::Answer;
 use outcomes::refusals;
 use slices::CHUNK;
 use slices::Checked;
+use slices::MAX_INDEX;
 use slices::RECORD;
 use slices::check;
 ghost use Prim.Native.Nat.{_≤_};
@@ -22,7 +23,7 @@ ghost use Rattle.plans.specs.Calls.{readOutcome};
 ghost use Rattle.plans.specs.Inner.{Cut};
 
 // The bytes of a piece.
-pub const PIECE: usize = 30;
+pub const PIECE: usize = 34;
 
 // Where a byte lies in the store: nowhere, so that it reads as zero, or in an object at a place in its block.
 pub enum Location {
@@ -35,9 +36,10 @@ pub enum Location {
     },
 }
 
-// A piece of a plan, as its 30 bytes say it.
+// A piece of a plan, as its 34 bytes say it.
 pub struct Piece {
     pub mark: u16,
+    pub index: u32,
     pub place: u32,
     pub id: u64,
     pub block: u32,
@@ -72,19 +74,23 @@ fn cut(l: u64, start: u64, count: u64) -> Span
     }
 }
 
-// Writes the plan of a read of `count` bytes from `start`, for a chunk of the given length, with objects of the given block size.
+// Writes the plan of a read of `count` bytes from `start`, for a chunk of the given index and length, with objects of the given block size.
 pub fn read_plan(
     list: &[u8],
+    index: u64,
     chunk_len: u64,
     block_size: u64,
     start: u64,
     count: u64,
     out: &mut [u8],
 ) -> Answer
-    ensures { λ r. ⌜ Answers (readOutcome (now (list .entry)) «chunk_len» «block_size» start count (length (now (out .entry)))) (now (out .entry)) r (now (out .exit)) ⌝ }
+    ensures { λ r. ⌜ Answers (readOutcome (now (list .entry)) index «chunk_len» «block_size» start count (length (now (out .entry)))) (now (out .entry)) r (now (out .exit)) ⌝ }
 {
     if (CHUNK as u64) < chunk_len {
         return Answer::Refused(refusals::refusal(refusals::CHUNK_TOO_LONG));
+    }
+    if MAX_INDEX < index {
+        return Answer::Refused(refusals::refusal(refusals::WRONG_CHUNKS));
     }
     if block_allowed(block_size) {
         match check::check_list(list) {
@@ -93,9 +99,23 @@ pub fn read_plan(
                 let read = cut(chunk_len, start, count);
                 let n = list.len() / RECORD;
                 if n <= 32 {
-                    return rooms::small(list, read.from, read.end, block_size as u32, out);
+                    return rooms::small(
+                        list,
+                        read.from,
+                        read.end,
+                        block_size as u32,
+                        index as u32,
+                        out,
+                    );
                 }
-                rooms::many(list, read.from, read.end, block_size as u32, out)
+                rooms::many(
+                    list,
+                    read.from,
+                    read.end,
+                    block_size as u32,
+                    index as u32,
+                    out,
+                )
             }
         }
     } else {

@@ -14,7 +14,7 @@ ghost use Rattle.outcomes.specs.Outcome.{delivered};
 ghost use Rattle.slices.specs.Limits.{chunk, maxRecords};
 ghost use Rattle.slices.specs.Passes.{Passes};
 ghost use Rattle.slices.specs.Record.{records, count};
-ghost use Rattle.plans.specs.Piece.{encodePieces};
+ghost use Rattle.plans.specs.Piece.{chunkBytes};
 ghost use Rattle.plans.specs.Plan.{pieces};
 
 // Resolves the list, and answers with the pieces of the positions from `from` up to `end`.
@@ -23,6 +23,7 @@ fn answer_in(
     from: u32,
     end: u32,
     block: u32,
+    index: u32,
     out: &mut [u8],
     marks: &mut [u32],
     tops: &mut [u16],
@@ -36,22 +37,22 @@ fn answer_in(
     requires { ⌜ blockAllowed block ≡ true ⌝ }
     requires { ⌜ (count (now list) + count (now list) + 1 < length (now marks)) × (count (now list) + count (now list) < length (now tops)) ⌝ }
     requires { ⌜ (count (now list) ≤ length (now pos)) × (count (now list) ≤ length (now ends)) × (count (now list) ≤ length (now order)) × (count (now list) ≤ length (now spare)) ⌝ }
-    ensures { λ r. ⌜ Answers (delivered (encodePieces (pieces block (records (now (list .entry))) from (end - from))) (length (now (out .entry)))) (now (out .entry)) r (now (out .exit)) ⌝ }
+    ensures { λ r. ⌜ Answers (delivered (chunkBytes index 0 (pieces block (records (now (list .entry))) from (end - from))) (length (now (out .entry)))) (now (out .entry)) r (now (out .exit)) ⌝ }
 {
     if end <= from {
         return Answer::Wrote(0);
     }
     let m = resolve::resolve(list, marks, tops, pos, ends, order, spare);
     let bits = bits_of(block);
-    walk::answer(list, marks, tops, m, from, end, block, bits, out)
+    walk::answer(list, marks, tops, m, from, end, block, bits, index, out)
 }
 
 // For at most 32 records.
-pub fn small(list: &[u8], from: u32, end: u32, block: u32, out: &mut [u8]) -> Answer
+pub fn small(list: &[u8], from: u32, end: u32, block: u32, index: u32, out: &mut [u8]) -> Answer
     requires { ⌜ All Passes (records (now list)) ⌝ }
     requires { ⌜ (count (now list) ≤ 32) × (from ≤ end) × (end ≤ chunk) ⌝ }
     requires { ⌜ blockAllowed block ≡ true ⌝ }
-    ensures { λ r. ⌜ Answers (delivered (encodePieces (pieces block (records (now (list .entry))) from (end - from))) (length (now (out .entry)))) (now (out .entry)) r (now (out .exit)) ⌝ }
+    ensures { λ r. ⌜ Answers (delivered (chunkBytes index 0 (pieces block (records (now (list .entry))) from (end - from))) (length (now (out .entry)))) (now (out .entry)) r (now (out .exit)) ⌝ }
 {
     let mut marks = [0u32; 66];
     let mut tops = [0u16; 65];
@@ -64,6 +65,7 @@ pub fn small(list: &[u8], from: u32, end: u32, block: u32, out: &mut [u8]) -> An
         from,
         end,
         block,
+        index,
         out,
         &mut marks,
         &mut tops,
@@ -75,11 +77,11 @@ pub fn small(list: &[u8], from: u32, end: u32, block: u32, out: &mut [u8]) -> An
 }
 
 // For at most 256 records.
-fn medium(list: &[u8], from: u32, end: u32, block: u32, out: &mut [u8]) -> Answer
+fn medium(list: &[u8], from: u32, end: u32, block: u32, index: u32, out: &mut [u8]) -> Answer
     requires { ⌜ All Passes (records (now list)) ⌝ }
     requires { ⌜ (count (now list) ≤ 256) × (from ≤ end) × (end ≤ chunk) ⌝ }
     requires { ⌜ blockAllowed block ≡ true ⌝ }
-    ensures { λ r. ⌜ Answers (delivered (encodePieces (pieces block (records (now (list .entry))) from (end - from))) (length (now (out .entry)))) (now (out .entry)) r (now (out .exit)) ⌝ }
+    ensures { λ r. ⌜ Answers (delivered (chunkBytes index 0 (pieces block (records (now (list .entry))) from (end - from))) (length (now (out .entry)))) (now (out .entry)) r (now (out .exit)) ⌝ }
 {
     let mut marks = [0u32; 514];
     let mut tops = [0u16; 513];
@@ -92,6 +94,7 @@ fn medium(list: &[u8], from: u32, end: u32, block: u32, out: &mut [u8]) -> Answe
         from,
         end,
         block,
+        index,
         out,
         &mut marks,
         &mut tops,
@@ -103,11 +106,11 @@ fn medium(list: &[u8], from: u32, end: u32, block: u32, out: &mut [u8]) -> Answe
 }
 
 // For all lists that are accepted.
-fn large(list: &[u8], from: u32, end: u32, block: u32, out: &mut [u8]) -> Answer
+fn large(list: &[u8], from: u32, end: u32, block: u32, index: u32, out: &mut [u8]) -> Answer
     requires { ⌜ All Passes (records (now list)) ⌝ }
     requires { ⌜ (count (now list) ≤ maxRecords) × (from ≤ end) × (end ≤ chunk) ⌝ }
     requires { ⌜ blockAllowed block ≡ true ⌝ }
-    ensures { λ r. ⌜ Answers (delivered (encodePieces (pieces block (records (now (list .entry))) from (end - from))) (length (now (out .entry)))) (now (out .entry)) r (now (out .exit)) ⌝ }
+    ensures { λ r. ⌜ Answers (delivered (chunkBytes index 0 (pieces block (records (now (list .entry))) from (end - from))) (length (now (out .entry)))) (now (out .entry)) r (now (out .exit)) ⌝ }
 {
     let mut marks = [0u32; 4098];
     let mut tops = [0u16; 4097];
@@ -120,6 +123,7 @@ fn large(list: &[u8], from: u32, end: u32, block: u32, out: &mut [u8]) -> Answer
         from,
         end,
         block,
+        index,
         out,
         &mut marks,
         &mut tops,
@@ -131,15 +135,15 @@ fn large(list: &[u8], from: u32, end: u32, block: u32, out: &mut [u8]) -> Answer
 }
 
 // For more than 32 records, or as many as you like.
-pub fn many(list: &[u8], from: u32, end: u32, block: u32, out: &mut [u8]) -> Answer
+pub fn many(list: &[u8], from: u32, end: u32, block: u32, index: u32, out: &mut [u8]) -> Answer
     requires { ⌜ All Passes (records (now list)) ⌝ }
     requires { ⌜ (count (now list) ≤ maxRecords) × (from ≤ end) × (end ≤ chunk) ⌝ }
     requires { ⌜ blockAllowed block ≡ true ⌝ }
-    ensures { λ r. ⌜ Answers (delivered (encodePieces (pieces block (records (now (list .entry))) from (end - from))) (length (now (out .entry)))) (now (out .entry)) r (now (out .exit)) ⌝ }
+    ensures { λ r. ⌜ Answers (delivered (chunkBytes index 0 (pieces block (records (now (list .entry))) from (end - from))) (length (now (out .entry)))) (now (out .entry)) r (now (out .exit)) ⌝ }
 {
     let n = list.len() / RECORD;
     if n <= 256 {
-        return medium(list, from, end, block, out);
+        return medium(list, from, end, block, index, out);
     }
-    large(list, from, end, block, out)
+    large(list, from, end, block, index, out)
 }

@@ -17,6 +17,9 @@ pub const RECORDS: usize = 2048;
 // The positions of a chunk.
 pub const CHUNK: u32 = 67108864;
 
+// The largest index of a chunk.
+pub const MAX_INDEX: u64 = 4294967295;
+
 // A slice record, as JuiceFS metadata v1 stores it.
 pub struct Record {
     pub pos: u32,

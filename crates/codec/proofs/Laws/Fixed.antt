@@ -32,6 +32,20 @@ bigEndian-split (suc j) k x =
     let e : x / 256 ^ (j + k) ≡ x / 256 ^ k / 256 ^ j = rw (pow-add, mul-comm (256 ^ j) (256 ^ k), div-div-eq-div-mul) in
     rw (suc-add, bigEndian-split j k x, e)
 
+-- the lower four bytes of a number are those of its remainder
+bigEndian-low : (x : ℕ) → bigEndian 4 (x % 4294967296) ≡ bigEndian 4 x
+unfolding bigEndian
+bigEndian-low x =
+    let a : x % 4294967296 / 16777216 % 256 ≡ x / 16777216 % 256 = omega arith in
+    let b : x % 4294967296 / 65536 % 256 ≡ x / 65536 % 256 = omega arith in
+    let d : x % 4294967296 / 256 % 256 ≡ x / 256 % 256 = omega arith in
+    let e : x % 4294967296 % 256 ≡ x % 256 = omega arith in
+    rw (div-one, div-one, a, b, d, e)
+
+-- eight bytes are those of the upper half, and then those of the lower
+pub bigEndian-halves : (x : ℕ) → bigEndian 8 x ≡ bigEndian 4 (x / 4294967296) ++ bigEndian 4 (x % 4294967296)
+bigEndian-halves x = bigEndian-split 4 4 x ∙ ap (λ (l : List ℕ). bigEndian 4 (x / 4294967296) ++ l) (sym (bigEndian-low x))
+
 -- ---- read
 
 -- a number is made of its upper bytes and its lower ones

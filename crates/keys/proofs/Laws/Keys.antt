@@ -11,7 +11,7 @@ use Rattle.codec.specs.Decimal.{digitOf}
 use Rattle.outcomes.specs.Numbers.{notOfForm}
 use Rattle.outcomes.specs.Outcome.{refused, done, refusal}
 use Rattle.texts.specs.Limits.{maxNumber}
-use Rattle.keys.specs.Limits.{maxIndex}
+use Rattle.slices.specs.Limits.{maxIndex}
 use Rattle.texts.specs.Parts.{write}
 use Rattle.texts.specs.Calls.{WriterRefuses}
 use Rattle.texts.specs.Inverse.{Inverse, Any}

@@ -19,7 +19,7 @@ use Rattle.views.proofs.Laws.Again.{view-again, view-wrote-again}
 use Rattle.plans.specs.Location.{location, locationAt, nextLocation}
 use Rattle.plans.specs.Plan.{cutTo, locationFrom, pieces, readPlan}
 use Rattle.plans.specs.Store.{Store, fetch, reads}
-use Rattle.plans.specs.Piece.{encodePieces}
+use Rattle.plans.specs.Piece.{chunkBytes}
 use Rattle.plans.specs.Calls.{planBytes}
 use Rattle.slices.specs.declared.Record.{Record}
 use Rattle.slices.specs.declared.Source.{Source}
@@ -62,7 +62,7 @@ module _ (bs : List ℕ) (b : Bytes bs) (l : ℕ) (before after : List ℕ) (n :
   pub view-wrote-again-reads : (st : Store) (p : ℕ) → p < l → reads B st (records (take n after)) p ≡ reads B st (records bs) p
   view-wrote-again-reads = same-reads (records bs) (records (take n after)) l (view-wrote-again bs b l before after n a .means) B
 
-  pub view-wrote-again-plan : (m start count : ℕ) → m ≤ l → planBytes (take n after) m B start count ≡ planBytes bs m B start count
+  pub view-wrote-again-plan : (index m start count : ℕ) → m ≤ l → planBytes (take n after) index m B start count ≡ planBytes bs index m B start count
   unfolding planBytes
-  view-wrote-again-plan m start count k =
-      ap encodePieces (same-plan (records bs) (records (take n after)) l (view-wrote-again bs b l before after n a .means) B m start count k)
+  view-wrote-again-plan index m start count k =
+      ap (chunkBytes index 0) (same-plan (records bs) (records (take n after)) l (view-wrote-again bs b l before after n a .means) B m start count k)

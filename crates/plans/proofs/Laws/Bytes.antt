@@ -1,10 +1,10 @@
 -- The read plan in words of bytes: fetching by it from any store gives, for every place of the read, the byte that the list reads there.
 -- Assumes nothing.
-use Prim.Native.Nat.{ℕ, _+_, _-_, _<_, _≤_, zero-le}
+use Prim.Native.Nat.{ℕ, _+_, _-_, _^_, _<_, _≤_, zero-le}
 use native.Mathlib.Omega.{arith}
 use native.Mathlib.Decide.{decLt}
 use mathlib.Core.Path.{_≡_, sym, ap, _∙_}
-use mathlib.Core.List.{List, [], _∷_}
+use mathlib.Core.List.{List, [], _∷_, map}
 use borrow.Author.Tests.{le-leb, lt-ltb, le-ltb}
 use Rattle.codec.specs.All.{All, Bytes}
 use Rattle.slices.specs.Limits.{chunk}
@@ -15,12 +15,12 @@ use Rattle.runs.specs.Runs.{Run, Valid, IsRun}
 use Rattle.runs.proofs.Laws.Runs.{valid-le}
 use Rattle.runs.proofs.Laws.Walk.{value-at}
 use Rattle.plans.specs.Location.{nextLocation, onward}
-use Rattle.plans.specs.Piece.{piecesIn}
+use Rattle.plans.specs.Piece.{inChunk, piecesIn, storeRuns, RunFits}
 use Rattle.plans.specs.Plan.{cutTo, locationFrom, pieces, readPlan}
 use Rattle.plans.specs.Store.{Store, fetch, reads, fetched}
 use Rattle.plans.specs.Calls.{planBytes}
 use Rattle.plans.proofs.Laws.Locations.{onward-zero, next-location-is}
-use Rattle.plans.proofs.Laws.Pieces.{pieces-back}
+use Rattle.plans.proofs.Laws.Pieces.{chunk-back, store-back}
 use Rattle.plans.proofs.Laws.Divide.{pieces-divide}
 use Rattle.plans.proofs.Laws.Fits.{plan-fits}
 use Rattle.slices.specs.declared.Record.{Record}
@@ -74,12 +74,20 @@ plan-bytes st B rs l start count i h = pieces-bytes st B rs start (cutTo l start
 
 -- ---- a plan's bytes
 
-module _ (bs : List ℕ) (b : Bytes bs) (p : All Passes (records bs)) (l B start count : ℕ) (h : l ≤ chunk) where
-  -- the bytes of a plan are read back as the plan
-  pub plan-back : piecesIn (planBytes bs l B start count) ≡ readPlan B (records bs) l start count
+module _ (bs : List ℕ) (b : Bytes bs) (p : All Passes (records bs)) (index l B start count : ℕ) (g : index < 2 ^ 32) (h : l ≤ chunk) where
+  fits : All RunFits (map (inChunk index 0) (readPlan B (records bs) l start count))
+  fits = plan-fits B (records bs) p (records-fit bs b) index g l start count h
+
+  -- the bytes of a plan are read back as the plan, with the chunk's index in each run
+  pub plan-back : piecesIn (planBytes bs index l B start count) ≡ map (inChunk index 0) (readPlan B (records bs) l start count)
   unfolding planBytes
-  plan-back = pieces-back (readPlan B (records bs) l start count) (plan-fits B (records bs) p (records-fit bs b) l start count h)
+  plan-back = chunk-back index 0 (readPlan B (records bs) l start count) fits
+
+  plan-stored : storeRuns (planBytes bs index l B start count) ≡ readPlan B (records bs) l start count
+  unfolding planBytes
+  plan-stored = store-back index (readPlan B (records bs) l start count) fits
 
   -- and fetch what the list reads
-  pub plan-bytes-back : (st : Store) (i : ℕ) → i < cutTo l start count → fetched st (piecesIn (planBytes bs l B start count)) i ≡ reads B st (records bs) (start + i)
-  plan-bytes-back st i k = rw plan-back (plan-bytes st B (records bs) l start count i k)
+  pub plan-bytes-back : (st : Store) (i : ℕ) → i < cutTo l start count
+      → fetched st (storeRuns (planBytes bs index l B start count)) i ≡ reads B st (records bs) (start + i)
+  plan-bytes-back st i k = rw plan-stored (plan-bytes st B (records bs) l start count i k)

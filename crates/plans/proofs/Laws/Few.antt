@@ -21,11 +21,10 @@ use Rattle.runs.specs.Inner.{Unbroken}
 use Rattle.views.specs.View.{next}
 use Rattle.views.proofs.Laws.Count.{unbroken-length}
 use Rattle.views.proofs.Laws.Segments.{segment-unbroken, segment-next}
-use Rattle.plans.specs.Inner.{piecesLeft}
 use Rattle.plans.specs.Location.{locationAt, nextLocation}
-use Rattle.plans.specs.Piece.{pieceSize, encodePieces}
+use Rattle.plans.specs.Piece.{pieceSize, chunkBytes}
 use Rattle.plans.specs.Plan.{pieces}
-use Rattle.plans.proofs.Laws.Pieces.{length-encodePieces}
+use Rattle.plans.proofs.Laws.Pieces.{length-chunkBytes}
 use Rattle.plans.proofs.Laws.Tops.{top-giving, hole-on, byte-on}
 use Rattle.plans.proofs.Laws.Walk.{left-all}
 
@@ -132,10 +131,10 @@ module _ (B end : ℕ) (some : 0 < B) (bs marks tops : List ℕ) (m : ℕ) (pass
   -- ---- the plan
 
   plan-few : (k from : ℕ) → from < end → Holds marks m k from → length (pieces B (records bs) from (end - from)) ≤ m + m + (end - from) / B
-  unfolding piecesLeft
-  plan-few k from l t = rw (← left-all B (records bs) from end, length-map) (omega (arith, all-left m k from (omega arith) l t))
+  plan-few k from l t = rw (← left-all B (records bs) 0 from end, length-map) (omega (arith, all-left m k from (omega arith) l t))
 
-  pub plan-room : (from room : ℕ) → from < end → (m + m + (end - from) / B) * pieceSize ≤ room → length (encodePieces (pieces B (records bs) from (end - from))) ≤ room
-  plan-room from room l h =
+  pub plan-room : (index before from room : ℕ) → from < end → (m + m + (end - from) / B) * pieceSize ≤ room
+      → length (chunkBytes index before (pieces B (records bs) from (end - from))) ≤ room
+  plan-room index before from room l h =
       let t = resolved-some bs marks tops m chunk r from (omega arith) in
-      omega (arith, length-encodePieces (pieces B (records bs) from (end - from)), plan-few (t .0) from l (t .1))
+      omega (arith, length-chunkBytes index before (pieces B (records bs) from (end - from)), plan-few (t .0) from l (t .1))

@@ -8,7 +8,7 @@ use Rattle.codec.specs.Splice.{splice}
 use Rattle.codec.proofs.Laws.Splice.{splice-nil}
 use Rattle.runs.specs.Runs.{runs}
 use Rattle.slices.specs.declared.Record.{Record}
-use Rattle.plans.specs.Piece.{encodePieces}
+use Rattle.plans.specs.Piece.{encodePieces, chunkBytes}
 use Rattle.plans.specs.Plan.{pieces}
 use Rattle.outcomes.specs.Answers.{Answers}
 use Rattle.outcomes.specs.Numbers as number
@@ -32,8 +32,9 @@ module _ (bs out : List ℕ) where
     counted-done l after n f a = delivered-room (omega (arith, e, ap length same)) after n f (a ∙ ap (λ (o : List ℕ). splice o 0 bs) same)
 
 -- no positions have no pieces
-pub none-delivered : (B : ℕ) (rs : List Record) (from end : ℕ) (out : List ℕ) → end ≤ from → Answers (delivered (encodePieces (pieces B rs from (end - from))) (length out)) out (Wrote 0) out
-unfolding encodePieces pieces runs flatMap
-none-delivered B rs from end out h =
+pub none-delivered : (index B : ℕ) (rs : List Record) (from end : ℕ) (out : List ℕ) → end ≤ from
+    → Answers (delivered (chunkBytes index 0 (pieces B rs from (end - from))) (length out)) out (Wrote 0) out
+unfolding chunkBytes encodePieces pieces runs flatMap
+none-delivered index B rs from end out h =
     let e : end - from ≡ 0 = omega arith in
     rw e (delivered-room [] out zero-le out 0 refl (sym (splice-nil out 0)))

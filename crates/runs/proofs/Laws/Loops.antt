@@ -1,5 +1,6 @@
--- A loop that writes a list piece by piece, or only counts its bytes: `left p` is what is left at position p. Assumes nothing.
-use Prim.Native.Nat.{ℕ, suc, _+_, _*_, _<_, _≤_, zero-le}
+-- A loop that writes a list piece by piece into a buffer, from `first` on, or only counts its bytes: `left p` is what is left at position p.
+-- Assumes nothing.
+use Prim.Native.Nat.{ℕ, suc, _+_, _*_, _<_, _≤_}
 use native.Mathlib.Omega.{arith}
 use native.Mathlib.Nat.{suc-mul, mul-le-mul-right}
 use mathlib.Core.Path.{_≡_, refl, sym, ap, _∙_}
@@ -9,19 +10,19 @@ use lib.ListN.{length, length-append}
 use Rattle.codec.specs.Splice.{splice}
 use Rattle.codec.proofs.Laws.Splice.{length-splice, splice-then, splice-nil}
 
-module _ {X : Type 0} (left : ℕ → List X) (from end : ℕ) (encode : X → List ℕ) (w : ℕ) (wide : (x : X) → length (encode x) ≡ w) where
+module _ {X : Type 0} (left : ℕ → List X) (from end first : ℕ) (encode : X → List ℕ) (w : ℕ) (wide : (x : X) → length (encode x) ≡ w) where
   -- what stands before p is written, up to `at`, or only counted
   pub record Filled (write : Bool) (out₀ out : List ℕ) (p at : ℕ) : Type 0 where
     pub inside : p ≤ end
-    pub few : at ≤ p * w
+    pub few : at ≤ first + p * w
     pub same : length out ≡ length out₀
     pub room : write ≡ true → at + length (flatMap encode (left p)) ≤ length out
-    pub sum : at + length (flatMap encode (left p)) ≡ length (flatMap encode (left from))
-    pub rest : cond write (splice out at (flatMap encode (left p))) out ≡ cond write (splice out₀ 0 (flatMap encode (left from))) out₀
+    pub sum : at + length (flatMap encode (left p)) ≡ first + length (flatMap encode (left from))
+    pub rest : cond write (splice out at (flatMap encode (left p))) out ≡ cond write (splice out₀ first (flatMap encode (left from))) out₀
 
-  pub filled-start : (write : Bool) (out : List ℕ) → from ≤ end → (write ≡ true → length (flatMap encode (left from)) ≤ length out)
-      → Filled write out out from 0
-  filled-start write out h l = record { inside = h; few = zero-le; same = refl; room = λ t. omega (arith, l t); sum = omega arith; rest = refl }
+  pub filled-start : (write : Bool) (out : List ℕ) → from ≤ end → (write ≡ true → first + length (flatMap encode (left from)) ≤ length out)
+      → Filled write out out from first
+  filled-start write out h l = record { inside = h; few = omega arith; same = refl; room = l; sum = refl; rest = refl }
 
   module _ (write : Bool) (out₀ out : List ℕ) (p at e : ℕ) (c : Filled write out₀ out p at) (l : p < e) (h : e ≤ end) where
     step : p * w + w ≤ e * w
@@ -63,15 +64,15 @@ module _ {X : Type 0} (left : ℕ → List X) (from end : ℕ) (encode : X → L
           }
 
   pub filled-end : (write : Bool) (out₀ out : List ℕ) (p at : ℕ) → Filled write out₀ out p at → left p ≡ []
-      → out ≡ cond write (splice out₀ 0 (flatMap encode (left from))) out₀
+      → out ≡ cond write (splice out₀ first (flatMap encode (left from))) out₀
   unfolding flatMap
   filled-end write out₀ out p at c v = go write (c .rest)
     where
-      go : (t : Bool) → cond t (splice out at (flatMap encode (left p))) out ≡ cond t (splice out₀ 0 (flatMap encode (left from))) out₀
-          → out ≡ cond t (splice out₀ 0 (flatMap encode (left from))) out₀
+      go : (t : Bool) → cond t (splice out at (flatMap encode (left p))) out ≡ cond t (splice out₀ first (flatMap encode (left from))) out₀
+          → out ≡ cond t (splice out₀ first (flatMap encode (left from))) out₀
       go true r = sym (splice-nil out at) ∙ (rw v at r)
       go false r = r
 
-  pub filled-count : (write : Bool) (out₀ out : List ℕ) (p at : ℕ) → Filled write out₀ out p at → left p ≡ [] → at ≡ length (flatMap encode (left from))
+  pub filled-count : (write : Bool) (out₀ out : List ℕ) (p at : ℕ) → Filled write out₀ out p at → left p ≡ [] → at ≡ first + length (flatMap encode (left from))
   unfolding flatMap
   filled-count write out₀ out p at c v = omega (arith, c .sum, ap (λ (xs : List X). length (flatMap encode xs)) v)

@@ -1,27 +1,15 @@
 -- `codec::fixed::write_be64` meets its contract: its upper and its lower four bytes. Assumes nothing.
-use Prim.Native.Nat.{ℕ, _/_, _%_}
+use Prim.Native.Nat.{_/_, _%_}
 use native.Mathlib.Omega.{arith}
-use native.Mathlib.Nat.{div-one}
-use mathlib.Core.Path.{_≡_, sym, ap, _∙_}
-use mathlib.Core.List.{List, _++_}
+use mathlib.Core.Path.{sym, ap, _∙_}
 use denote.Ref.{now}
 use Rattle.codec.specs.Fixed.{bigEndian}
 use Rattle.codec.specs.Splice.{splice}
-use Rattle.codec.proofs.Laws.Fixed.{length-bigEndian, bigEndian-split}
+use Rattle.codec.proofs.Laws.Fixed.{length-bigEndian, bigEndian-halves}
 use Rattle.codec.proofs.Laws.Splice.{splices-2}
 use borrow.Author.Needs.{needs}
 use Rattle.codec.proofs.fixed.write_be64.Statement.{statement}
 use Rattle.codec.proofs.fixed.write_be64.Tie as tie
-
--- the lower four bytes of a number are those of its remainder
-bigEndian-low : (x : ℕ) → bigEndian 4 (x % 4294967296) ≡ bigEndian 4 x
-unfolding bigEndian
-bigEndian-low x =
-    let a : x % 4294967296 / 16777216 % 256 ≡ x / 16777216 % 256 = omega arith in
-    let b : x % 4294967296 / 65536 % 256 ≡ x / 65536 % 256 = omega arith in
-    let d : x % 4294967296 / 256 % 256 ≡ x / 256 % 256 = omega arith in
-    let e : x % 4294967296 % 256 ≡ x % 256 = omega arith in
-    rw (div-one, div-one, a, b, d, e)
 
 cast-write-be32 : tie.Need-cast-write-be32
 cast-write-be32 c = search needs
@@ -46,9 +34,8 @@ returns c =
     let low = c .before .before in
     let high = low .before .before .before .before in
     let a = high .before .before .before .args in
-    let e : bigEndian 4 (a .x % 4294967296) ≡ bigEndian 4 (a .x) = bigEndian-low (a .x) in
     splices-2 (now (a .out)) (a .at) (bigEndian 4 (a .x / 4294967296)) (bigEndian 4 (a .x % 4294967296)) 4 (length-bigEndian 4 _) (omega arith) (high .write-be32 .ensures) (low .write-be322 .ensures)
-    ∙ ap (splice (now (a .out)) (a .at)) (ap (λ (l : List ℕ). bigEndian 4 (a .x / 4294967296) ++ l) e ∙ sym (bigEndian-split 4 4 (a .x)))
+    ∙ ap (splice (now (a .out)) (a .at)) (sym (bigEndian-halves (a .x)))
 
 pub write-be64-spec : {M : Type 1} → statement M
 write-be64-spec =

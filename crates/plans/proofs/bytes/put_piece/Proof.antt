@@ -1,5 +1,5 @@
 -- `plans::bytes::put_piece` meets its contract: the length, and before it what the record on top tells. Assumes nothing.
-use Prim.Native.Nat.{_-_}
+use Prim.Native.Nat.{_-_, _/_, _%_, _^_}
 use native.Mathlib.Omega.{arith}
 use mathlib.Core.Path.{sym, ap, _∙_}
 use denote.Ref.{now}
@@ -54,7 +54,7 @@ returns c =
     let start = len .before .before .before .before in
     let h = top-hole _ _ _ _ (start .pre .1 .0) (start .pre .0 .0) (sym (there .before .id-on .ensures) ∙ there .if1 .taken) in
     piece-put (now (start .args .out)) _ _ _ (start .args .to) _ _ Hole (start .pre .1 .1) (len .write-be32 .ensures) (front .put-front .ensures) (c .before .before .put-nothing .ensures)
-    ∙ ap (λ (a : Location). splice (now (start .args .out)) (start .args .to) (encodePiece (pieceOf (start .args .place) (start .args .len) a))) (sym h)
+    ∙ ap (λ (a : Location). splice (now (start .args .out)) (start .args .to) (encodePiece (pieceOf (start .args .front / 2 ^ 32) (start .args .front % 2 ^ 32) (start .args .len) a))) (sym h)
 
 put-front-requires-2 : tie.Need-put-front-requires-2
 put-front-requires-2 c κs = search needs
@@ -89,7 +89,7 @@ returns-2 c =
     let a = location (start .args .block) (given r (start .args .p)) in
     piece-put (now (start .args .out)) _ _ _ (start .args .to) _ _ a (start .pre .1 .1) (len .write-be32 .ensures)
     (rw (← giving-mark (start .args .block) _ _ _ _ (giving wide)) (front .put-front2 .ensures)) (c .before .before .put-object .ensures)
-    ∙ ap (λ (b : Location). splice (now (start .args .out)) (start .args .to) (encodePiece (pieceOf (start .args .place) (start .args .len) b))) (sym h)
+    ∙ ap (λ (b : Location). splice (now (start .args .out)) (start .args .to) (encodePiece (pieceOf (start .args .front / 2 ^ 32) (start .args .front % 2 ^ 32) (start .args .len) b))) (sym h)
 
 pub put-piece-spec : {M : Type 1} → statement M
 put-piece-spec =

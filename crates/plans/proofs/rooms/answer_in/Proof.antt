@@ -5,7 +5,7 @@ use Rattle.plans.proofs.rooms.answer_in.Statement.{statement}
 use Rattle.plans.proofs.rooms.answer_in.Tie as tie
 
 returns : tie.Need-returns
-returns c = none-delivered _ _ _ _ _ (c .if1 .taken)
+returns c = none-delivered _ _ _ _ _ _ (c .if1 .taken)
 
 resolve-requires : tie.Need-resolve-requires
 resolve-requires c κs =

@@ -3,6 +3,7 @@ use Prim.Native.Nat.{_+_, _/_}
 use native.Mathlib.Omega.{arith}
 use borrow.Author.Tests.{leb-true}
 use Rattle.slices.specs.Limits.{chunk}
+use Rattle.plans.specs.Piece.{pieceSize}
 use borrow.Author.Needs.{needs}
 use Rattle.plans.proofs.walk.roomy.Statement.{statement}
 use Rattle.plans.proofs.walk.roomy.Tie as tie
@@ -27,7 +28,7 @@ add-result-2 c = omega (arith, c .before .pre .0, c .number-of .ok)
 returns : tie.Need-returns
 returns c =
     let a = c .before .args in
-    λ t. omega (arith, leb-true (a .m + a .m + c .number-of .result) (a .room / 30) t, c .number-of .ensures)
+    λ t. omega (arith, leb-true (a .m + a .m + c .number-of .result) (a .room / pieceSize) t, c .number-of .ensures)
 
 pub roomy-spec : {M : Type 1} → statement M
 roomy-spec =

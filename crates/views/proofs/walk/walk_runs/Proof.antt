@@ -2,6 +2,7 @@
 -- Assumes nothing.
 use Prim.Native.Nat.{_+_, _-_, _<_, zero-le}
 use native.Mathlib.Omega.{arith}
+use native.Mathlib.Nat.{zero-add}
 use mathlib.Core.Path.{refl, _∙_}
 use lib.ListN.{getD}
 use denote.Ref.{now}
@@ -19,7 +20,7 @@ use Rattle.views.proofs.walk.walk_runs.Tie as tie
 
 abbrev Inv-loop : tie.InvT-loop
 Inv-loop list marks tops m end all write out₀ p₀ k₀ at₀ out p k at =
-    Filled (λ q. viewFrom all (records list) q end) 0 end encode recordSize length-encode write out₀ out p at × (p < end → Holds marks m k p)
+    Filled (λ q. viewFrom all (records list) q end) 0 end 0 encode recordSize length-encode write out₀ out p at × (p < end → Holds marks m k p)
 
 abbrev μ-loop : tie.MeasureT-loop
 μ-loop list marks tops m end all write out₀ p₀ k₀ at₀ out p k at = end - p
@@ -33,7 +34,7 @@ loop-holds : tie.Need-loop-holds Inv-loop μ-loop
 unfolding encodeAll
 loop-holds c =
     let p = c .before .before .before .before .pre in
-    (filled-start _ _ _ _ _ _ _ _ zero-le (p .1 .1), (λ h. resolved-front _ _ _ _ _ (p .0 .resolved) (omega (arith, h, p .1 .0))))
+    (filled-start _ _ _ _ _ _ _ _ _ zero-le (λ t. omega (arith, p .1 .1 t)), (λ h. resolved-front _ _ _ _ _ (p .0 .resolved) (omega (arith, h, p .1 .0))))
 
 mul-top : tie.Need-mul-top Inv-loop μ-loop
 mul-top c =
@@ -65,7 +66,7 @@ put-if-requires c κs =
     let turn = run .before .before in
     let p = turn .before .before .before .before .before .before .pre in
     let l = run .reach .ensures .0 in
-    (p .0 .pass, (on-top turn, filled-room _ _ _ _ _ _ _ _ _ _ _ _ (turn .before .loop .inv .0) (l .some) (l .inside) _ (viewFrom-more _ _ _ _ _ _ _ _ l (chosen .before .shown .ensures ∙ shown-wanted _ _ _ _ (on-top turn)) (chosen .if1 .taken) refl)))
+    (p .0 .pass, (on-top turn, filled-room _ _ _ _ _ _ _ _ _ _ _ _ _ (turn .before .loop .inv .0) (l .some) (l .inside) _ (viewFrom-more _ _ _ _ _ _ _ _ l (chosen .before .shown .ensures ∙ shown-wanted _ _ _ _ (on-top turn)) (chosen .if1 .taken) refl)))
 
 add-at : tie.Need-add-at Inv-loop μ-loop
 unfolding chunk
@@ -87,7 +88,7 @@ loop-again c =
     let turn = run .before .before in
     let l = run .reach .ensures .0 in
     let v = viewFrom-more _ _ _ _ _ _ _ _ l (chosen .before .shown .ensures ∙ shown-wanted _ _ _ _ (on-top turn)) (chosen .if1 .taken) refl in
-    (filled-more _ _ _ _ _ _ _ _ _ _ _ _ (turn .before .loop .inv .0) (l .some) (l .inside) _ v _ (put .put-if .ensures), run .reach .ensures .1)
+    (filled-more _ _ _ _ _ _ _ _ _ _ _ _ _ (turn .before .loop .inv .0) (l .some) (l .inside) _ v _ (put .put-if .ensures), run .reach .ensures .1)
 
 loop-less-2 : tie.Need-loop-less-2 Inv-loop μ-loop
 loop-less-2 c =
@@ -99,7 +100,7 @@ loop-again-2 c =
     let run = c .before .before in
     let turn = run .before .before in
     let l = run .reach .ensures .0 in
-    (filled-less _ _ _ _ _ _ _ _ _ _ _ _ (turn .before .loop .inv .0) (l .some) (l .inside) (viewFrom-less _ _ _ _ _ _ _ l (c .before .shown .ensures ∙ shown-wanted _ _ _ _ (on-top turn)) (c .if1 .left)), run .reach .ensures .1)
+    (filled-less _ _ _ _ _ _ _ _ _ _ _ _ _ (turn .before .loop .inv .0) (l .some) (l .inside) (viewFrom-less _ _ _ _ _ _ _ l (c .before .shown .ensures ∙ shown-wanted _ _ _ _ (on-top turn)) (c .if1 .left)), run .reach .ensures .1)
 
 same-length : tie.Need-same-length Inv-loop μ-loop
 same-length c = c .before .loop .inv .0 .same
@@ -109,7 +110,7 @@ unfolding encodeAll
 returns c =
     let w = c .before .loop .inv .0 in
     let none = viewFrom-none _ _ _ _ (c .loop-test .left) in
-    (filled-count _ _ _ _ _ _ _ _ _ _ _ w none, filled-end _ _ _ _ _ _ _ _ _ _ _ w none)
+    (filled-count _ _ _ _ _ _ _ _ _ _ _ _ w none ∙ zero-add _, filled-end _ _ _ _ _ _ _ _ _ _ _ _ w none)
 
 pub walk-runs-spec : {M : Type 1} → statement M
 walk-runs-spec =
