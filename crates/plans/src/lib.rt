@@ -15,9 +15,8 @@ use slices::Checked;
 use slices::MAX_INDEX;
 use slices::RECORD;
 use slices::check;
-ghost use Prim.Native.Nat.{_≤_};
+ghost use Prim.Native.Nat.{_^_, _<_};
 ghost use lib.ListN.{length};
-ghost use Rattle.slices.specs.Limits.{chunk};
 ghost use Rattle.outcomes.specs.Answers.{Answers};
 ghost use Rattle.plans.specs.Calls.{readOutcome};
 ghost use Rattle.plans.specs.Inner.{Cut};
@@ -49,14 +48,14 @@ pub struct Piece {
 }
 
 // The positions from `from` up to, but without, `end`.
-struct Span {
-    from: u32,
-    end: u32,
+pub struct Span {
+    pub from: u32,
+    pub end: u32,
 }
 
-// The positions of a read of `count` bytes from `start`, for a chunk of l bytes. The sum of start and count is never made.
-fn cut(l: u64, start: u64, count: u64) -> Span
-    requires { ⌜ l ≤ chunk ⌝ }
+// The positions of a read of `count` bytes from `start`, where there are l bytes. The sum of start and count is never made.
+pub fn cut(l: u64, start: u64, count: u64) -> Span
+    requires { ⌜ l < 2 ^ 32 ⌝ }
     ensures { λ r. ⌜ Cut l start count (r .from) (r .end) ⌝ }
 {
     if l <= start {

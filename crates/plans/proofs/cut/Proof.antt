@@ -1,7 +1,6 @@
 -- `plans::cut` meets its contract: the tests say how the read is cut. Assumes nothing.
 use native.Mathlib.Omega.{arith}
 use mathlib.Core.Path.{refl}
-use Rattle.slices.specs.Limits.{chunk}
 use Rattle.plans.specs.Plan.{cutTo}
 use borrow.Author.Needs.{needs}
 use Rattle.plans.proofs.cut.Statement.{statement}
@@ -15,14 +14,12 @@ sub-if2 : tie.Need-sub-if2
 sub-if2 c = search needs
 
 cast-t6 : tie.Need-cast-t6
-unfolding chunk
 cast-t6 c = omega arith
 
 add-t7 : tie.Need-add-t7
 add-t7 c = search needs
 
 cast-t8 : tie.Need-cast-t8
-unfolding chunk
 cast-t8 c = omega arith
 
 returns-2 : tie.Need-returns-2
@@ -30,11 +27,9 @@ unfolding cutTo
 returns-2 c = record { order = omega arith; within = omega arith; size = omega arith; starts = λ l. refl }
 
 cast-t9 : tie.Need-cast-t9
-unfolding chunk
 cast-t9 c = omega arith
 
 cast-t10 : tie.Need-cast-t10
-unfolding chunk
 cast-t10 c = omega arith
 
 returns-3 : tie.Need-returns-3

@@ -52,7 +52,7 @@ module _ (bs marks tops : List ℕ) (m : ℕ) (r : Resolved bs marks tops m chun
 
   -- ---- each segment adds at most one run
 
-  segments-runs : (d k p end : ℕ) → m ≤ k + d → p < end → end ≤ chunk → Holds marks m k p → length (runs next (cover (records bs)) p (end - p)) + k ≤ m
+  pub segments-runs : (d k p end : ℕ) → m ≤ k + d → p < end → end ≤ chunk → Holds marks m k p → length (runs next (cover (records bs)) p (end - p)) + k ≤ m
   segments-runs zero k p end h l g s = absurd (omega (arith, s .inside))
   segments-runs (suc d) k p end h l g s =
       go (decLt (getD marks (k + 1) 0) end) (λ e. segments-runs d (k + 1) e end (omega arith))

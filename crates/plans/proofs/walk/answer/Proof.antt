@@ -45,7 +45,7 @@ fits c =
     let p = start .pre in
     let s = p .1 .2 in
     let h = rw (← s .power) at (c .before .roomy .ensures (c .if1 .taken)) in
-    plan-room _ _ (shifts-some _ _ s) _ _ _ _ (p .0 .pass) (p .0 .resolved) (p .1 .1) _ _ _ _ (p .1 .0) h
+    plan-room _ _ (shifts-some _ _ s) _ _ _ _ (p .0 .resolved) (p .1 .1) _ _ _ _ (p .1 .0) h
 
 mul-front : tie.Need-mul-front
 mul-front c = search needs
