@@ -26,14 +26,14 @@ pub fn adds_up(lengths: &[u64], bytes: usize) -> bool
     ensures { λ r. ⌜ r ≡ eqb (total (now (lengths .entry))) bytes ⌝ }
 {
     let mut left = bytes as u64;
-    let mut k = 0;
-    while k < lengths.len() {
-        let n = lengths[k];
+    let mut i = 0;
+    while i < lengths.len() {
+        let n = lengths[i];
         if left < n {
             return false;
         }
         left -= n;
-        k += 1;
+        i += 1;
     }
     left == 0
 }

@@ -13,10 +13,10 @@ use Rattle.joined.proofs.adds_up.Statement.{statement}
 use Rattle.joined.proofs.adds_up.Tie as tie
 
 abbrev Inv-loop : tie.InvT-loop
-Inv-loop lengths bytes left₀ k₀ left k = (total lengths + left ≡ total (drop k lengths) + bytes) × (k ≤ length lengths)
+Inv-loop lengths bytes left₀ i₀ left i = (total lengths + left ≡ total (drop i lengths) + bytes) × (i ≤ length lengths)
 
 abbrev μ-loop : tie.MeasureT-loop
-μ-loop lengths bytes left₀ k₀ left k = length lengths - k
+μ-loop lengths bytes left₀ i₀ left i = length lengths - i
 
 loop-holds : tie.Need-loop-holds Inv-loop μ-loop
 loop-holds c = search needs
@@ -31,11 +31,11 @@ returns : tie.Need-returns Inv-loop μ-loop
 returns c =
     let l = c .before .before .before in
     let a = l .before .args in
-    let n = total-next (l .loop .k) (now (a .lengths)) (c .before .before .loop-test .taken) in
+    let n = total-next (l .loop .i) (now (a .lengths)) (c .before .before .loop-test .taken) in
     sym (ne-eqb (total (now (a .lengths))) (a .bytes) (λ z. omega (arith, n, l .loop .inv .0, c .if1 .taken)))
 
-add-k : tie.Need-add-k Inv-loop μ-loop
-add-k c = search needs
+add-i : tie.Need-add-i Inv-loop μ-loop
+add-i c = search needs
 
 loop-less : tie.Need-loop-less Inv-loop μ-loop
 loop-less c = search needs
@@ -43,14 +43,14 @@ loop-less c = search needs
 loop-again : tie.Need-loop-again Inv-loop μ-loop
 loop-again c =
     let l = c .before .before .before in
-    let n = total-next (l .loop .k) (now (l .before .args .lengths)) (c .before .before .loop-test .taken) in
+    let n = total-next (l .loop .i) (now (l .before .args .lengths)) (c .before .before .loop-test .taken) in
     (rw add-one (omega (arith, n, l .loop .inv .0, c .if1 .left)), search needs)
 
 returns-2 : tie.Need-returns-2 Inv-loop μ-loop
 returns-2 c =
     let l = c .before in
     let a = l .before .args in
-    let n = total-end (l .loop .k) (now (a .lengths)) (c .loop-test .left) in
+    let n = total-end (l .loop .i) (now (a .lengths)) (c .loop-test .left) in
     none-left (total (now (a .lengths))) (l .loop .left) (a .bytes) (omega (arith, n, l .loop .inv .0))
 
 pub adds-up-spec : {M : Type 1} → statement M
@@ -63,7 +63,7 @@ adds-up-spec =
     mul-n
     shared-slice-read-n
     returns
-    add-k
+    add-i
     loop-less
     loop-again
     returns-2)
