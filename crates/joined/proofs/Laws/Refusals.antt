@@ -1,11 +1,11 @@
 -- Laws of the refusals of several lists: the first refused list gives the refusal, with its index. Assumes nothing.
-use Prim.Native.Nat.{ℕ, suc, _+_}
+use Prim.Native.Nat.{ℕ, zero, suc, _+_, _<_}
 use native.Mathlib.Omega.{arith}
-use mathlib.Core.Path.{_≡_, refl, sym, ap, _∙_}
+use mathlib.Core.Path.{_≡_, refl, sym, ap, subst, _∙_}
 use mathlib.Core.Logic.{_↔_}
 use mathlib.Core.Bool.{Bool, true, false, cond}
 use mathlib.Core.List.{List, [], _∷_, _++_}
-use lib.ListN.{length}
+use lib.ListN.{length, take, drop, getD}
 use Rattle.codec.specs.All.{All}
 use Rattle.codec.proofs.Laws.All.{all-left, all-right}
 use Rattle.outcomes.specs.Outcome.{OutcomeOf, refused, done, RowOf, Row, Outcome, firstOf, NoneHolds}
@@ -15,7 +15,9 @@ use Rattle.slices.specs.Accepts.{Accepts}
 use Rattle.slices.specs.Record.{count}
 use Rattle.slices.specs.Refusals.{listRows, checkOutcome, checked}
 use Rattle.slices.proofs.Laws.Refusals.{none-accepts, accepted-exactly, check-answered-exactly, check-accepts}
+use Rattle.joined.specs.Lists.{total, parts}
 use Rattle.joined.specs.Refusals.{ofList, rowsOf, listsRows, listsOutcome, checkedLists, FirstRefusedList}
+use Rattle.joined.proofs.Laws.Lists.{parts-length, parts-at}
 use Rattle.outcomes.specs.declared.Refusal.{Refusal}
 use Rattle.joined.specs.declared.ListRefusal.{ListRefusal}
 use Rattle.joined.specs.declared.CheckedLists.the-variants.{Accepted, Refused}
@@ -90,6 +92,16 @@ module _ (i : ℕ) (ls : List (List ℕ)) where
   pub lists-accepted-exactly : (listsOutcome i ls ≡ done (length ls)) ↔ All Accepts ls
   unfolding listsOutcome
   lists-accepted-exactly = (lists-accepted (length ls), accepts-passes i ls (done (length ls)))
+
+-- each of them is accepted
+pub accepted-at : (ls : List (List ℕ)) (k : ℕ) → k < length ls → All Accepts ls → Accepts (getD ls k [])
+accepted-at [] k h a = absurd (omega arith)
+accepted-at (l ∷ ls) zero h a = a .0
+accepted-at (l ∷ ls) (suc k) h a = accepted-at ls k (omega arith) (a .1)
+
+-- the list with the number k, where it stands in joined bytes
+pub part-accepted : (ns bs : List ℕ) (k : ℕ) → k < length ns → All Accepts (parts ns bs) → Accepts (take (getD ns k 0) (drop (total (take k ns)) bs))
+part-accepted ns bs k h a = subst Accepts (parts-at k ns bs h) (accepted-at (parts ns bs) k (rw parts-length h) a)
 
 -- ---- one is refused
 
