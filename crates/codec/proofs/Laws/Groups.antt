@@ -6,7 +6,7 @@ use native.Mathlib.Nat.{add-zero, zero-add, add-mul, suc-mul, zero-mul, zero-div
 use native.Mathlib.Numerals.{add-one}
 use native.Mathlib.Decide.{ℕ-discrete}
 use mathlib.Core.Path.{_≡_, refl, sym, ap, _∙_}
-use mathlib.Core.List.{List, [], _∷_, _++_, flatMap}
+use mathlib.Core.List.{List, [], _∷_, _++_, flatMap, append-assoc}
 use lib.ListN.{length, take, drop, length-append}
 use lib.Seq.{take-add, take-all, drop-drop}
 use Rattle.codec.specs.All.{All}
@@ -15,6 +15,11 @@ use Rattle.codec.specs.Groups.{groupsFrom, groups}
 -- the next n + m bytes are the next n and the m after them
 pub cut : (bs : List ℕ) (n m i j : ℕ) → i + n ≡ j → take (n + m) (drop i bs) ≡ take n (drop i bs) ++ take m (drop j bs)
 cut bs n m i j e = take-add n m (drop i bs) ∙ rw (drop-drop n i bs, e)
+
+pub flatMap-append : {A : Type 0} (e : A → List ℕ) (xs ys : List A) → flatMap e (xs ++ ys) ≡ flatMap e xs ++ flatMap e ys
+unfolding flatMap
+flatMap-append e [] ys = refl
+flatMap-append e (x ∷ xs) ys = ap (λ (bs : List ℕ). e x ++ bs) (flatMap-append e xs ys) ∙ sym (append-assoc (e x) (flatMap e xs) (flatMap e ys))
 
 module _ {A : Type 0} (e : A → List ℕ) (w : ℕ) (sized : (x : A) → length (e x) ≡ w) where
   pub length-encoded : (xs : List A) → length (flatMap e xs) ≡ length xs * w

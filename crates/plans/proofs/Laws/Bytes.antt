@@ -12,7 +12,6 @@ use Rattle.slices.specs.Passes.{Passes}
 use Rattle.slices.specs.Record.{records}
 use Rattle.slices.proofs.Laws.Firsts.{records-fit}
 use Rattle.runs.specs.Runs.{Run, Valid, IsRun}
-use Rattle.runs.proofs.Laws.Runs.{valid-le}
 use Rattle.runs.proofs.Laws.Walk.{value-at}
 use Rattle.plans.specs.Location.{nextLocation, onward}
 use Rattle.plans.specs.Piece.{inChunk, piecesIn, storeRuns, RunFits}
@@ -47,10 +46,23 @@ run-location f at end r v h p l m =
 
 -- ---- a plan
 
-fetched-runs : (st : Store) (f : ℕ → Location) (at end : ℕ) (xs : List (Run Location)) → Valid nextLocation f at end xs → (i : ℕ) → at ≤ i → i < end
+-- the runs divide the places from `at` up to `end`; they need not be maximal
+abbrev pub Divides : (ℕ → Location) → ℕ → ℕ → List (Run Location) → Type 0
+Divides f at end [] = at ≡ end
+Divides f at end (r ∷ rs) = IsRun nextLocation f at r × Divides f (at + r .len) end rs
+
+valid-divides : (f : ℕ → Location) (at end : ℕ) (xs : List (Run Location)) → Valid nextLocation f at end xs → Divides f at end xs
+valid-divides f at end [] v = v
+valid-divides f at end (r ∷ xs) v = (v .0, valid-divides f (at + r .len) end xs (v .2))
+
+divides-le : (f : ℕ → Location) (at end : ℕ) (xs : List (Run Location)) → Divides f at end xs → at ≤ end
+divides-le f at end [] v = omega arith
+divides-le f at end (r ∷ xs) v = omega (arith, divides-le f (at + r .len) end xs (v .1))
+
+pub fetched-divided : (st : Store) (f : ℕ → Location) (at end : ℕ) (xs : List (Run Location)) → Divides f at end xs → (i : ℕ) → at ≤ i → i < end
     → fetched st xs i ≡ fetch st (f i)
-fetched-runs st f at end [] v i l m = absurd (omega arith)
-fetched-runs st f at end (r ∷ xs) v i l m = go (decLt i (at + r .len)) (fetched-runs st f (at + r .len) end xs (v .2) i)
+fetched-divided st f at end [] v i l m = absurd (omega arith)
+fetched-divided st f at end (r ∷ xs) v i l m = go (decLt i (at + r .len)) (fetched-divided st f (at + r .len) end xs (v .1) i)
   where
     go : Dec (i < at + r .len) → (at + r .len ≤ i → i < end → fetched st xs i ≡ fetch st (f i)) → fetched st (r ∷ xs) i ≡ fetch st (f i)
     go (yes k) ih =
@@ -58,14 +70,15 @@ fetched-runs st f at end (r ∷ xs) v i l m = go (decLt i (at + r .len)) (fetche
         let e : i - r .start ≡ i - at = omega arith in
         fetched-here st r xs i (omega arith) (omega arith)
         ∙ ap (λ (j : ℕ). fetch st (onward (r .first) j)) e
-        ∙ ap (fetch st) (sym (run-location f at end r (v .0) (valid-le nextLocation f (at + r .len) end xs (v .2)) i l k))
+        ∙ ap (fetch st) (sym (run-location f at end r (v .0) (divides-le f (at + r .len) end xs (v .1)) i l k))
     go (no k) ih =
         let b = v .0 .starts in
         fetched-later st r xs i (omega arith) ∙ ih (omega arith) m
 
 pub pieces-bytes : (st : Store) (B : ℕ) (rs : List Record) (start n i : ℕ) → i < n → fetched st (pieces B rs start n) i ≡ reads B st rs (start + i)
 unfolding reads locationFrom
-pieces-bytes st B rs start n i h = fetched-runs st (locationFrom B rs start) 0 n (pieces B rs start n) (pieces-divide B rs start n) i zero-le h
+pieces-bytes st B rs start n i h =
+    fetched-divided st (locationFrom B rs start) 0 n (pieces B rs start n) (valid-divides (locationFrom B rs start) 0 n (pieces B rs start n) (pieces-divide B rs start n)) i zero-le h
 
 pub plan-bytes : (st : Store) (B : ℕ) (rs : List Record) (l start count i : ℕ) → i < cutTo l start count
     → fetched st (readPlan B rs l start count) i ≡ reads B st rs (start + i)

@@ -2,10 +2,11 @@
 -- Assumes nothing.
 use Prim.Native.Nat.{ℕ, _*_, _%_, _≤_}
 use native.Mathlib.Omega.{arith}
-use mathlib.Core.Path.{_≡_, refl, sym, ap, _∙_}
-use mathlib.Core.List.{List, [], _∷_, _++_, append-assoc, flatMap}
+use mathlib.Core.Path.{_≡_, sym, ap, _∙_}
+use mathlib.Core.List.{List, _++_}
 use lib.ListN.{length, take, drop, length-take, take-append-drop}
 use lib.Seq.{take-at, drop-at}
+use Rattle.codec.proofs.Laws.Groups.{flatMap-append}
 use Rattle.codec.specs.All.{All, Bytes}
 use Rattle.slices.specs.Limits.{recordSize}
 use Rattle.slices.specs.Record.{encode, encodeAll, recordAt, count, records, Fits}
@@ -15,9 +16,8 @@ use Rattle.slices.specs.declared.Record.{Record}
 
 -- the bytes of two lists, one after the other
 pub encode-append : (xs ys : List Record) → encodeAll (xs ++ ys) ≡ encodeAll xs ++ encodeAll ys
-unfolding encodeAll flatMap
-encode-append [] ys = refl
-encode-append (r ∷ xs) ys = ap (λ (bs : List ℕ). encode r ++ bs) (encode-append xs ys) ∙ sym (append-assoc (encode r) (encodeAll xs) (encodeAll ys))
+unfolding encodeAll
+encode-append xs ys = flatMap-append encode xs ys
 
 -- the records of bytes are of 24 bytes
 pub records-fit : (bs : List ℕ) → Bytes bs → All Fits (records bs)

@@ -1,0 +1,7 @@
+-- Laws of the definitions of specs/.
+pub mod Runs
+pub mod Joins
+pub mod Bytes
+pub mod Few
+pub mod Walk
+pub mod Calls

@@ -1,0 +1,14 @@
+-- Inner: what the steps of the code find. It serves the contracts of inner functions alone. Assumes nothing.
+use Prim.Native.Nat.{ℕ, _+_, _<_, _≤_}
+use mathlib.Core.List.{List}
+use lib.ListN.{length}
+use Rattle.slices.specs.Limits.{maxRecords}
+
+-- room to resolve every list that is accepted
+pub record Room (marks tops pos ends order spare : List ℕ) : Type 0 where
+  pub marks-fit : maxRecords + maxRecords + 1 < length marks
+  pub tops-fit : maxRecords + maxRecords < length tops
+  pub pos-fit : maxRecords ≤ length pos
+  pub ends-fit : maxRecords ≤ length ends
+  pub order-fit : maxRecords ≤ length order
+  pub spare-fit : maxRecords ≤ length spare

@@ -1,0 +1,4 @@
+pub mod Limits
+pub mod File
+pub mod Calls
+pub mod Inner

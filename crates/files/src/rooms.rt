@@ -1,0 +1,151 @@
+// Room to resolve the lists in, one after the other, and the answer.
+use crate::FileAnswer;
+use crate::refused;
+use crate::walk;
+use blocks::bits_of;
+use outcomes::refusals;
+use plans::PIECE;
+use slices::RECORD;
+ghost use mathlib.Core.Path.{_≡_};
+ghost use mathlib.Core.Bool.{true};
+ghost use mathlib.Core.List.{map};
+ghost use Prim.Native.Nat.{_+_, _-_, _*_, _/_, _^_, _<_, _≤_};
+ghost use lib.ListN.{length};
+ghost use Rattle.codec.specs.All.{All};
+ghost use Rattle.blocks.specs.Blocks.{blockAllowed};
+ghost use Rattle.slices.specs.Accepts.{Accepts};
+ghost use Rattle.slices.specs.Limits.{recordSize};
+ghost use Rattle.slices.specs.Record.{records};
+ghost use Rattle.joined.specs.Lists.{total, parts};
+ghost use Rattle.plans.specs.Piece.{pieceSize, encodePieces};
+ghost use Rattle.files.specs.Limits.{maxLists};
+ghost use Rattle.files.specs.Calls.{AnswersFile, deliveredFile};
+ghost use Rattle.files.specs.File.{chunkPlans};
+ghost use Rattle.files.specs.Inner.{Room};
+
+// Whether a buffer of so many bytes has room for all pieces that can come: four a record, two a list, and one a block.
+fn roomy(bytes: usize, lists: usize, from: u32, end: u32, bits: u32, room: usize) -> bool
+    requires { ⌜ (lists ≤ maxLists) × (from ≤ end) × (bits < 32) ⌝ }
+    ensures { λ r. ⌜ (r ≡ true → (4 * (bytes / recordSize) + 2 * lists + (end - from) / 2 ^ bits) * pieceSize ≤ room) ⌝ }
+{
+    4 * (bytes / RECORD) + 2 * lists + ((end - from) >> bits) as usize <= room / PIECE
+}
+
+// Answers with the pieces of the positions from `from` up to `end`. They are counted first only where they may have no room.
+fn answer_in(
+    lists: &[u8],
+    lengths: &[u64],
+    first: u32,
+    from: u32,
+    end: u32,
+    block: u32,
+    out: &mut [u8],
+    marks: &mut [u32],
+    tops: &mut [u16],
+    pos: &mut [u64],
+    ends: &mut [u32],
+    order: &mut [u16],
+    spare: &mut [u16],
+) -> FileAnswer
+    requires { ⌜ (total (now lengths) ≡ length (now lists)) × All Accepts (parts (now lengths) (now lists)) ⌝ }
+    requires { ⌜ (length (now lengths) ≤ maxLists) × (first + length (now lengths) ≤ 2 ^ 32) × (from ≤ end) ⌝ }
+    requires { ⌜ blockAllowed block ≡ true ⌝ }
+    requires { ⌜ Room (now marks) (now tops) (now pos) (now ends) (now order) (now spare) ⌝ }
+    ensures { λ r. ⌜ AnswersFile (deliveredFile (encodePieces (chunkPlans first block from end 0 (map records (parts (now (lengths .entry)) (now (lists .entry)))))) (length (now (out .entry)))) (now (out .entry)) r (now (out .exit)) ⌝ }
+{
+    let bits = bits_of(block);
+    if roomy(lists.len(), lengths.len(), from, end, bits, out.len()) {
+        return FileAnswer::Wrote(walk::walk_lists(
+            lists,
+            lengths,
+            first,
+            from,
+            end,
+            block,
+            bits,
+            true,
+            out,
+            marks,
+            tops,
+            pos,
+            ends,
+            order,
+            spare,
+        ));
+    }
+    let need = walk::walk_lists(
+        lists,
+        lengths,
+        first,
+        from,
+        end,
+        block,
+        bits,
+        false,
+        out,
+        marks,
+        tops,
+        pos,
+        ends,
+        order,
+        spare,
+    );
+    if out.len() < need {
+        return refused(refusals::SHORT_BUFFER);
+    }
+    FileAnswer::Wrote(walk::walk_lists(
+        lists,
+        lengths,
+        first,
+        from,
+        end,
+        block,
+        bits,
+        true,
+        out,
+        marks,
+        tops,
+        pos,
+        ends,
+        order,
+        spare,
+    ))
+}
+
+// The same, in room for all lists that are accepted.
+pub(crate) fn answer(
+    lists: &[u8],
+    lengths: &[u64],
+    first: u32,
+    from: u32,
+    end: u32,
+    block: u32,
+    out: &mut [u8],
+) -> FileAnswer
+    requires { ⌜ (total (now lengths) ≡ length (now lists)) × All Accepts (parts (now lengths) (now lists)) ⌝ }
+    requires { ⌜ (length (now lengths) ≤ maxLists) × (first + length (now lengths) ≤ 2 ^ 32) × (from ≤ end) ⌝ }
+    requires { ⌜ blockAllowed block ≡ true ⌝ }
+    ensures { λ r. ⌜ AnswersFile (deliveredFile (encodePieces (chunkPlans first block from end 0 (map records (parts (now (lengths .entry)) (now (lists .entry)))))) (length (now (out .entry)))) (now (out .entry)) r (now (out .exit)) ⌝ }
+{
+    let mut marks = [0u32; 4098];
+    let mut tops = [0u16; 4097];
+    let mut pos = [0u64; 2048];
+    let mut ends = [0u32; 2048];
+    let mut order = [0u16; 2048];
+    let mut spare = [0u16; 2048];
+    answer_in(
+        lists,
+        lengths,
+        first,
+        from,
+        end,
+        block,
+        out,
+        &mut marks,
+        &mut tops,
+        &mut pos,
+        &mut ends,
+        &mut order,
+        &mut spare,
+    )
+}
