@@ -1,4 +1,5 @@
 -- Laws of the definitions of specs/.
+pub mod Chunks
 pub mod Runs
 pub mod Joins
 pub mod Bytes

@@ -8,20 +8,19 @@ use plans::PIECE;
 use slices::RECORD;
 ghost use mathlib.Core.Path.{_≡_};
 ghost use mathlib.Core.Bool.{true};
-ghost use mathlib.Core.List.{map};
 ghost use Prim.Native.Nat.{_+_, _-_, _*_, _/_, _^_, _<_, _≤_};
+ghost use lib.Dec.{leb};
 ghost use lib.ListN.{length};
 ghost use Rattle.codec.specs.All.{All};
 ghost use Rattle.blocks.specs.Blocks.{blockAllowed};
 ghost use Rattle.slices.specs.Accepts.{Accepts};
 ghost use Rattle.slices.specs.Limits.{recordSize};
-ghost use Rattle.slices.specs.Record.{records};
 ghost use Rattle.joined.specs.Lists.{total, parts};
-ghost use Rattle.plans.specs.Piece.{pieceSize, encodePieces};
+ghost use Rattle.plans.specs.Inner.{Shifts};
+ghost use Rattle.plans.specs.Piece.{pieceSize};
 ghost use Rattle.files.specs.Limits.{maxLists};
 ghost use Rattle.files.specs.Calls.{AnswersFile, deliveredFile};
-ghost use Rattle.files.specs.File.{chunkPlans};
-ghost use Rattle.files.specs.Inner.{Room};
+ghost use Rattle.files.specs.Inner.{Room, bytesOf};
 
 // Whether a buffer of so many bytes has room for all pieces that can come: four a record, two a list, and one a block.
 fn roomy(bytes: usize, lists: usize, from: u32, end: u32, bits: u32, room: usize) -> bool
@@ -31,7 +30,53 @@ fn roomy(bytes: usize, lists: usize, from: u32, end: u32, bits: u32, room: usize
     4 * (bytes / RECORD) + 2 * lists + ((end - from) >> bits) as usize <= room / PIECE
 }
 
-// Answers with the pieces of the positions from `from` up to `end`. They are counted first only where they may have no room.
+// Whether the buffer has room for the pieces of the positions from `from` up to `end`. They are counted only where they may have none.
+fn has_room(
+    lists: &[u8],
+    lengths: &[u64],
+    first: u32,
+    from: u32,
+    end: u32,
+    block: u32,
+    bits: u32,
+    out: &mut [u8],
+    marks: &mut [u32],
+    tops: &mut [u16],
+    pos: &mut [u64],
+    ends: &mut [u32],
+    order: &mut [u16],
+    spare: &mut [u16],
+) -> bool
+    requires { ⌜ (total (now lengths) ≡ length (now lists)) × All Accepts (parts (now lengths) (now lists)) ⌝ }
+    requires { ⌜ (length (now lengths) ≤ maxLists) × (first + length (now lengths) ≤ 2 ^ 32) × (from ≤ end) × Shifts block bits ⌝ }
+    requires { ⌜ Room (now marks) (now tops) (now pos) (now ends) (now order) (now spare) ⌝ }
+    ensures { λ r. ⌜ r ≡ leb (length (bytesOf first block from end 0 (parts (now (lengths .entry)) (now (lists .entry))))) (length (now (out .entry))) ⌝ }
+    ensures { λ _. ⌜ now (out .exit) ≡ now (out .entry) ⌝ }
+{
+    if roomy(lists.len(), lengths.len(), from, end, bits, out.len()) {
+        return true;
+    }
+    let need = walk::walk_lists(
+        lists,
+        lengths,
+        first,
+        from,
+        end,
+        block,
+        bits,
+        false,
+        out,
+        marks,
+        tops,
+        pos,
+        ends,
+        order,
+        spare,
+    );
+    need <= out.len()
+}
+
+// Answers with these pieces.
 fn answer_in(
     lists: &[u8],
     lengths: &[u64],
@@ -51,10 +96,25 @@ fn answer_in(
     requires { ⌜ (length (now lengths) ≤ maxLists) × (first + length (now lengths) ≤ 2 ^ 32) × (from ≤ end) ⌝ }
     requires { ⌜ blockAllowed block ≡ true ⌝ }
     requires { ⌜ Room (now marks) (now tops) (now pos) (now ends) (now order) (now spare) ⌝ }
-    ensures { λ r. ⌜ AnswersFile (deliveredFile (encodePieces (chunkPlans first block from end 0 (map records (parts (now (lengths .entry)) (now (lists .entry)))))) (length (now (out .entry)))) (now (out .entry)) r (now (out .exit)) ⌝ }
+    ensures { λ r. ⌜ AnswersFile (deliveredFile (bytesOf first block from end 0 (parts (now (lengths .entry)) (now (lists .entry)))) (length (now (out .entry)))) (now (out .entry)) r (now (out .exit)) ⌝ }
 {
     let bits = bits_of(block);
-    if roomy(lists.len(), lengths.len(), from, end, bits, out.len()) {
+    if has_room(
+        lists,
+        lengths,
+        first,
+        from,
+        end,
+        block,
+        bits,
+        out,
+        marks,
+        tops,
+        pos,
+        ends,
+        order,
+        spare,
+    ) {
         return FileAnswer::Wrote(walk::walk_lists(
             lists,
             lengths,
@@ -73,43 +133,7 @@ fn answer_in(
             spare,
         ));
     }
-    let need = walk::walk_lists(
-        lists,
-        lengths,
-        first,
-        from,
-        end,
-        block,
-        bits,
-        false,
-        out,
-        marks,
-        tops,
-        pos,
-        ends,
-        order,
-        spare,
-    );
-    if out.len() < need {
-        return refused(refusals::SHORT_BUFFER);
-    }
-    FileAnswer::Wrote(walk::walk_lists(
-        lists,
-        lengths,
-        first,
-        from,
-        end,
-        block,
-        bits,
-        true,
-        out,
-        marks,
-        tops,
-        pos,
-        ends,
-        order,
-        spare,
-    ))
+    refused(refusals::SHORT_BUFFER)
 }
 
 // The same, in room for all lists that are accepted.
@@ -125,7 +149,7 @@ pub(crate) fn answer(
     requires { ⌜ (total (now lengths) ≡ length (now lists)) × All Accepts (parts (now lengths) (now lists)) ⌝ }
     requires { ⌜ (length (now lengths) ≤ maxLists) × (first + length (now lengths) ≤ 2 ^ 32) × (from ≤ end) ⌝ }
     requires { ⌜ blockAllowed block ≡ true ⌝ }
-    ensures { λ r. ⌜ AnswersFile (deliveredFile (encodePieces (chunkPlans first block from end 0 (map records (parts (now (lengths .entry)) (now (lists .entry)))))) (length (now (out .entry)))) (now (out .entry)) r (now (out .exit)) ⌝ }
+    ensures { λ r. ⌜ AnswersFile (deliveredFile (bytesOf first block from end 0 (parts (now (lengths .entry)) (now (lists .entry)))) (length (now (out .entry)))) (now (out .entry)) r (now (out .exit)) ⌝ }
 {
     let mut marks = [0u32; 4098];
     let mut tops = [0u16; 4097];

@@ -3,7 +3,6 @@ use crate::parts;
 use plans::walk;
 ghost use mathlib.Core.Path.{_≡_};
 ghost use mathlib.Core.Bool.{true, cond};
-ghost use mathlib.Core.List.{map};
 ghost use Prim.Native.Nat.{_+_, _*_, _^_, _<_, _≤_};
 ghost use lib.ListN.{length};
 ghost use Rattle.codec.specs.All.{All};
@@ -15,8 +14,8 @@ ghost use Rattle.joined.specs.Lists.{total, parts};
 ghost use Rattle.plans.specs.Inner.{Shifts};
 ghost use Rattle.plans.specs.Piece.{encodePieces};
 ghost use Rattle.files.specs.Limits.{maxLists};
-ghost use Rattle.files.specs.File.{chunkPlan, chunkPlans};
-ghost use Rattle.files.specs.Inner.{Room};
+ghost use Rattle.files.specs.File.{chunkPlan};
+ghost use Rattle.files.specs.Inner.{Room, bytesOf};
 
 // Writes the pieces of the k-th chunk's positions into a buffer that has room for them, from `start` on, or only counts their bytes; where they end.
 fn walk_list(
@@ -49,7 +48,7 @@ fn walk_list(
         return start;
     }
     let m = resolve::resolve(list, marks, tops, pos, ends, order, spare);
-    let front = (first + k) as u64 * 4294967296 + parts::before(from, k) as u64;
+    let front = (first + k) as u64 * 4294967296 + parts::places_before(from, k) as u64;
     walk::walk_pieces(
         list,
         marks,
@@ -87,9 +86,9 @@ pub(crate) fn walk_lists(
     requires { ⌜ (total (now lengths) ≡ length (now lists)) × All Accepts (parts (now lengths) (now lists)) ⌝ }
     requires { ⌜ (length (now lengths) ≤ maxLists) × (first + length (now lengths) ≤ 2 ^ 32) × Shifts block bits ⌝ }
     requires { ⌜ Room (now marks) (now tops) (now pos) (now ends) (now order) (now spare) ⌝ }
-    requires { ⌜ (write ≡ true → length (encodePieces (chunkPlans first block from end 0 (map records (parts (now lengths) (now lists))))) ≤ length (now out)) ⌝ }
-    ensures { λ r. ⌜ r ≡ length (encodePieces (chunkPlans first block from end 0 (map records (parts (now (lengths .entry)) (now (lists .entry)))))) ⌝ }
-    ensures { λ _. ⌜ now (out .exit) ≡ cond write (splice (now (out .entry)) 0 (encodePieces (chunkPlans first block from end 0 (map records (parts (now (lengths .entry)) (now (lists .entry))))))) (now (out .entry)) ⌝ }
+    requires { ⌜ (write ≡ true → length (bytesOf first block from end 0 (parts (now lengths) (now lists))) ≤ length (now out)) ⌝ }
+    ensures { λ r. ⌜ r ≡ length (bytesOf first block from end 0 (parts (now (lengths .entry)) (now (lists .entry)))) ⌝ }
+    ensures { λ _. ⌜ now (out .exit) ≡ cond write (splice (now (out .entry)) 0 (bytesOf first block from end 0 (parts (now (lengths .entry)) (now (lists .entry))))) (now (out .entry)) ⌝ }
 {
     let mut at = 0;
     let mut to = 0;

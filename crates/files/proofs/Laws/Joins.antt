@@ -63,11 +63,28 @@ module _ (from end low n : ℕ) where
       let m : min (end - low) n ≡ n = omega arith in
       rw m (meet from low n)
 
-module _ (first B : ℕ) (ls : List (List Record)) (from end : ℕ) where
+module _ (from end : ℕ) where
   -- the places of the read from chunk k on
-  abbrev remaining : ℕ → ℕ
+  abbrev pub remaining : ℕ → ℕ
   remaining k = end - from - (k * chunk - from)
 
+  none-remains : (k : ℕ) → (from < end → end ≤ k * chunk) → remaining k ≡ 0
+  none-remains k h = go (decLt from end)
+    where
+      go : Dec (from < end) → remaining k ≡ 0
+      go (yes l) = omega (arith, h l)
+      go (no l) = omega arith
+
+  -- how many places chunk k has, and where the next one's begin if there are any
+  pub remains : (k : ℕ) → remaining k ≡ partEnd end k - partFrom from k + remaining (suc k)
+  unfolding partFrom partEnd
+  remains k = rw (suc-mul k chunk) (places-split from end (k * chunk) chunk)
+
+  begins : (k : ℕ) → 0 < remaining (suc k) → k * chunk - from + (partEnd end k - partFrom from k) ≡ suc k * chunk - from
+  unfolding partFrom partEnd
+  begins k h = rw (suc-mul k chunk) (places-next from end (k * chunk) chunk (rw (suc-mul k chunk) at h))
+
+module _ (first B : ℕ) (ls : List (List Record)) (from end : ℕ) where
   -- a place of chunk k
   in-chunk : (k j : ℕ) → j < partEnd end k - partFrom from k
       → siteFrom first B ls from (k * chunk - from + j) ≡ record { index = first + k; location = locationFrom B (getD ls k []) (partFrom from k) j }
@@ -93,28 +110,12 @@ module _ (first B : ℕ) (ls : List (List Record)) (from end : ℕ) where
       let y : (from + suc p) / 67108864 ≡ suc k = omega arith in
       rw (x, y, ne-eqb (first + k) (first + suc k) (λ e. omega arith))
 
-  none-remains : (k : ℕ) → (from < end → end ≤ k * chunk) → remaining k ≡ 0
-  none-remains k h = go (decLt from end)
-    where
-      go : Dec (from < end) → remaining k ≡ 0
-      go (yes l) = omega (arith, h l)
-      go (no l) = omega arith
-
-  -- how many places chunk k has, and where the next one's begin if there are any
-  remains : (k : ℕ) → remaining k ≡ partEnd end k - partFrom from k + remaining (suc k)
-  unfolding partFrom partEnd
-  remains k = rw (suc-mul k chunk) (places-split from end (k * chunk) chunk)
-
-  begins : (k : ℕ) → 0 < remaining (suc k) → k * chunk - from + (partEnd end k - partFrom from k) ≡ suc k * chunk - from
-  unfolding partFrom partEnd
-  begins k h = rw (suc-mul k chunk) (places-next from end (k * chunk) chunk (rw (suc-mul k chunk) at h))
-
   chunks-runs : (k : ℕ) (rest : List (List Record)) → ((j : ℕ) → getD rest j [] ≡ getD ls (k + j) []) → (from < end → end ≤ (k + length rest) * chunk)
-      → runs nextSite (siteFrom first B ls from) (k * chunk - from) (remaining k) ≡ chunkPlans first B from end k rest
+      → runs nextSite (siteFrom first B ls from) (k * chunk - from) (remaining from end k) ≡ chunkPlans first B from end k rest
   unfolding chunkPlans runs
-  chunks-runs k [] same h = rw (none-remains k (λ l. omega (arith, h l)))
+  chunks-runs k [] same h = rw (none-remains from end k (λ l. omega (arith, h l)))
   chunks-runs k (rs ∷ rest) same h =
-      go (decLt 0 (remaining (suc k)))
+      go (decLt 0 (remaining from end (suc k)))
       (chunks-runs (suc k) rest (λ j. let e : suc k + j ≡ k + suc j = omega arith in same (suc j) ∙ ap (λ (i : ℕ). getD ls i []) (sym e)) (λ l. omega (arith, h l)))
     where
       f : ℕ → Site
@@ -126,16 +127,16 @@ module _ (first B : ℕ) (ls : List (List Record)) (from end : ℕ) where
       here : runs nextSite f (k * chunk - from) n ≡ chunkPlan first B from end k rs
       here = chunk-runs k ∙ ap (chunkPlan first B from end k) (ap (λ (i : ℕ). getD ls i []) (sym (add-zero k)) ∙ sym (same 0))
 
-      go : Dec (0 < remaining (suc k)) → runs nextSite f (suc k * chunk - from) (remaining (suc k)) ≡ chunkPlans first B from end (suc k) rest
-          → runs nextSite f (k * chunk - from) (remaining k) ≡ chunkPlan first B from end k rs ++ chunkPlans first B from end (suc k) rest
+      go : Dec (0 < remaining from end (suc k)) → runs nextSite f (suc k * chunk - from) (remaining from end (suc k)) ≡ chunkPlans first B from end (suc k) rest
+          → runs nextSite f (k * chunk - from) (remaining from end k) ≡ chunkPlan first B from end k rs ++ chunkPlans first B from end (suc k) rest
       go (yes l) ih =
-          let e = begins k l in
-          rw (remains k)
-          (runs-append nextSite f (k * chunk - from) n (remaining (suc k)) (λ p a q. edge k p (q ∙ e))
+          let e = begins from end k l in
+          rw (remains from end k)
+          (runs-append nextSite f (k * chunk - from) n (remaining from end (suc k)) (λ p a q. edge k p (q ∙ e))
           ∙ rw (here, e, ih))
       go (no l) ih =
-          let z : remaining (suc k) ≡ 0 = omega arith in
-          let m : remaining k ≡ n = omega (arith, remains k) in
+          let z : remaining from end (suc k) ≡ 0 = omega arith in
+          let m : remaining from end k ≡ n = omega (arith, remains from end k) in
           rw (m, here, ← ih, z) (sym (append-nil (chunkPlan first B from end k rs)))
 
   pub file-pieces-join : (from < end → end ≤ length ls * chunk) → filePieces first B ls from (end - from) ≡ chunkPlans first B from end 0 ls

@@ -24,7 +24,7 @@ module _ (index before : ℕ) where
     where
       go : (t : Bool)
           → cond t (record { start = before + at; len = suc (r .len); first = site a } ∷ map (inChunk index before) rs)
-              (record { start = before + at; len = 1; first = site a } ∷ inChunk index before r ∷ map (inChunk index before) rs)
+          (record { start = before + at; len = 1; first = site a } ∷ inChunk index before r ∷ map (inChunk index before) rs)
           ≡ map (inChunk index before) (cond t (record { start = at; len = suc (r .len); first = a } ∷ rs) (record { start = at; len = 1; first = a } ∷ r ∷ rs))
       go true = refl
       go false = refl

@@ -8,6 +8,8 @@ use mathlib.Core.List.{List}
 use denote.Ref.{now}
 use lib.ListN.{length}
 use Rattle.codec.specs.Splice.{splice}
+use Rattle.outcomes.proofs.Laws.Delivery.{delivered-room, counted-short, counted-done}
+use Rattle.outcomes.specs.declared.Answer.the-variants.{Wrote, Refused}
 use Rattle.runs.specs.Runs.{Run}
 use Rattle.slices.specs.Limits.{chunk}
 use Rattle.slices.specs.Record.{records}
@@ -18,7 +20,6 @@ use Rattle.plans.specs.Plan.{pieces}
 use Rattle.plans.specs.declared.Location.{Location}
 use Rattle.plans.proofs.Laws.Few.{plan-room}
 use Rattle.plans.proofs.Laws.Pieces.{front-chunk}
-use Rattle.plans.proofs.Laws.Rooms.{delivered-room, counted-short, counted-done}
 use Rattle.plans.proofs.Laws.Shifts.{shifts-some}
 use borrow.Author.Needs.{needs}
 use Rattle.plans.proofs.walk.answer.Statement.{statement}
@@ -72,7 +73,7 @@ returns : tie.Need-returns
 returns c =
     let wrote = c .before .before in
     let start = c .before .before .before .before .before .before .before .before .before .before in
-    delivered-room (bytes start) (now (start .args .out)) (fits (wrote .before .before)) _ _ (counts start _ (wrote .walk-pieces .ensures .0)) (writes start _ _ (wrote .walk-pieces .ensures .1))
+    delivered-room _ (bytes start) (now (start .args .out)) Refused Wrote (fits (wrote .before .before)) _ _ (counts start _ (wrote .walk-pieces .ensures .0)) (writes start _ _ (wrote .walk-pieces .ensures .1))
 
 walk-pieces-requires-2 : tie.Need-walk-pieces-requires-2
 walk-pieces-requires-2 c κs =
@@ -89,7 +90,7 @@ returns-2 : tie.Need-returns-2
 returns-2 c =
     let counted = c .before .before .before .before in
     let start = c .before .before .before .before .before .before .before .before .before .before .before .before in
-    counted-short (bytes start) (now (start .args .out)) _ (counted .walk-pieces2 .ensures .1) _ (counts start _ (counted .walk-pieces2 .ensures .0)) (c .before .if2 .taken) _ (c .refusal .ensures)
+    counted-short _ (bytes start) (now (start .args .out)) Refused Wrote _ (counted .walk-pieces2 .ensures .1) _ (counts start _ (counted .walk-pieces2 .ensures .0)) (c .before .if2 .taken) _ (c .refusal .ensures)
 
 walk-pieces-requires-3 : tie.Need-walk-pieces-requires-3
 walk-pieces-requires-3 c κs =
@@ -106,7 +107,7 @@ returns-3 c =
     let there = wrote .before .before in
     let counted = there .before .before .before in
     let start = c .before .before .before .before .before .before .before .before .before .before .before .before .before .before .before in
-    counted-done (bytes start) (now (start .args .out)) _ (counted .walk-pieces2 .ensures .1) _ (counts start _ (counted .walk-pieces2 .ensures .0)) (there .if2 .left) _ _
+    counted-done _ (bytes start) (now (start .args .out)) Refused Wrote _ (counted .walk-pieces2 .ensures .1) _ (counts start _ (counted .walk-pieces2 .ensures .0)) (there .if2 .left) _ _
     (counts start _ (wrote .walk-pieces3 .ensures .0)) (writes start _ _ (wrote .walk-pieces3 .ensures .1))
 
 pub answer-spec : {M : Type 1} → statement M

@@ -112,7 +112,7 @@ loop-again c =
     (filled-more _ _ _ _ _ _ _ _ _ _ _ _ _ (i .0) (l .some) (l .inside) _ (left-more _ _ _ _ _ _ _ _ l) _ (rw (front-on _ _ _ _ (within run)) at (c .before .before .put-if .ensures)), run .reach .ensures .1, omega (arith, i .2, l .some))
 
 same-length : tie.Need-same-length Inv-loop μ-loop
-same-length c = c .before .loop .inv .0 .same
+same-length c = c .before .loop .inv .0 .puts .same
 
 returns : tie.Need-returns Inv-loop μ-loop
 returns c =

@@ -103,7 +103,7 @@ loop-again-2 c =
     (filled-less _ _ _ _ _ _ _ _ _ _ _ _ _ (turn .before .loop .inv .0) (l .some) (l .inside) (viewFrom-less _ _ _ _ _ _ _ l (c .before .shown .ensures ∙ shown-wanted _ _ _ _ (on-top turn)) (c .if1 .left)), run .reach .ensures .1)
 
 same-length : tie.Need-same-length Inv-loop μ-loop
-same-length c = c .before .loop .inv .0 .same
+same-length c = c .before .loop .inv .0 .puts .same
 
 returns : tie.Need-returns Inv-loop μ-loop
 unfolding encodeAll
