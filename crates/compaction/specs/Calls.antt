@@ -11,6 +11,7 @@ use Rattle.outcomes.specs.Outcome.{Outcome, done, Row, row, firstOf, tooShort}
 use Rattle.outcomes.specs.Answers.{answerOf, lent, Replies}
 use Rattle.slices.specs.Refusals.{listRows}
 use Rattle.blocks.specs.Blocks.{blockSizeBad}
+use Rattle.plans.specs.Calls.{pastIndex}
 use Rattle.compaction.specs.Compaction.{planBytes, newListBytes}
 use Rattle.slices.specs.declared.Record.{Record}
 use Rattle.compaction.specs.declared.Compacted.{Compacted}
@@ -32,9 +33,9 @@ pub record Both : Type 0 where
   pub plan : List ℕ
   pub list : List ℕ
 
--- of the compaction of the first k of the records rs
-unfoldable pub both : ℕ → List Record → ℕ → ℕ → Both
-both B rs k id = record { plan = planBytes B rs k; list = newListBytes rs k id }
+-- of the compaction of the first k of the records rs, of the chunk with this index
+unfoldable pub both : (index B : ℕ) → List Record → ℕ → ℕ → Both
+both index B rs k id = record { plan = planBytes index B rs k; list = newListBytes rs k id }
 
 -- 12: an output buffer shorter than its answer (either of the two, in compaction)
 abbrev pub roomRows : Both → (planRoom listRoom : ℕ) → List Row
@@ -47,18 +48,21 @@ deliveredBoth b planRoom listRoom = firstOf (roomRows b planRoom listRoom) (done
 -- ---- the call
 
 -- 10, 9, 12; `planRoom` and `listRoom` are the lengths of the lent buffers
-unfoldable pub laterRows : List Record → (B k id planRoom listRoom : ℕ) → List Row
-laterRows rs B k id planRoom listRoom =
+unfoldable pub laterRows : List Record → (index B k id planRoom listRoom : ℕ) → List Row
+laterRows rs index B k id planRoom listRoom =
     row (tooFew rs k) number.tooFew 0
     ∷ row (idInUse id rs) number.idInUse 0
-    ∷ roomRows (both B rs k id) planRoom listRoom
+    ∷ roomRows (both index B rs k id) planRoom listRoom
 
--- 8, 1, 2, 3 to 6, 16, and these
-unfoldable pub compactRows : List ℕ → (B k id planRoom listRoom : ℕ) → List Row
-compactRows bs B k id planRoom listRoom = row (blockSizeBad B) number.blockSize 0 ∷ (listRows bs ++ laterRows (records bs) B k id planRoom listRoom)
+-- 21, 8, 1, 2, 3 to 6, 16, 10, 9, 12
+unfoldable pub compactRows : List ℕ → (index B k id planRoom listRoom : ℕ) → List Row
+compactRows bs index B k id planRoom listRoom =
+    row (pastIndex index) number.wrongChunks 0
+    ∷ row (blockSizeBad B) number.blockSize 0
+    ∷ (listRows bs ++ laterRows (records bs) index B k id planRoom listRoom)
 
-unfoldable pub compactOutcome : List ℕ → (B k id planRoom listRoom : ℕ) → Outcome Both
-compactOutcome bs B k id planRoom listRoom = firstOf (compactRows bs B k id planRoom listRoom) (done (both B (records bs) k id))
+unfoldable pub compactOutcome : List ℕ → (index B k id planRoom listRoom : ℕ) → Outcome Both
+compactOutcome bs index B k id planRoom listRoom = firstOf (compactRows bs index B k id planRoom listRoom) (done (both index B (records bs) k id))
 
 -- ---- what it returns and leaves
 

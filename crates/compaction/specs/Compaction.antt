@@ -7,7 +7,7 @@ use lib.ListN.{take, drop}
 use Rattle.slices.specs.Limits.{chunk}
 use Rattle.slices.specs.Record.{encodeAll}
 use Rattle.runs.specs.Runs.{Run}
-use Rattle.plans.specs.Piece.{encodePieces}
+use Rattle.plans.specs.Piece.{chunkBytes}
 use Rattle.plans.specs.Plan.{readPlan}
 use Rattle.compaction.specs.Span.{firstCovered, lastCovered, coversNothing}
 use Rattle.slices.specs.declared.Record.{Record}
@@ -43,8 +43,9 @@ newList rs k id = standIn (take k rs) id ++ drop k rs
 
 -- ---- as bytes
 
-unfoldable pub planBytes : ℕ → List Record → ℕ → List ℕ
-planBytes B rs k = encodePieces (compactionPlan B rs k)
+-- the plan's, with the chunk's index in each piece
+unfoldable pub planBytes : (index B : ℕ) → List Record → ℕ → List ℕ
+planBytes index B rs k = chunkBytes index 0 (compactionPlan B rs k)
 
 unfoldable pub newListBytes : List Record → ℕ → ℕ → List ℕ
 newListBytes rs k id = encodeAll (newList rs k id)

@@ -9,6 +9,7 @@ use outcomes::Refusal;
 use outcomes::refusals;
 use plans::rooms;
 use slices::Checked;
+use slices::MAX_INDEX;
 use slices::RECORD;
 use slices::check;
 ghost use mathlib.Core.Path.{_≡_};
@@ -19,7 +20,7 @@ ghost use Rattle.codec.specs.All.{All};
 ghost use Rattle.blocks.specs.Blocks.{blockAllowed};
 ghost use Rattle.outcomes.specs.Answers.{Answers};
 ghost use Rattle.outcomes.specs.Outcome.{done, firstOf, delivered};
-ghost use Rattle.plans.specs.Piece.{encodePieces};
+ghost use Rattle.plans.specs.Piece.{chunkBytes};
 ghost use Rattle.plans.specs.Plan.{pieces};
 ghost use Rattle.slices.specs.Accepts.{Accepts};
 ghost use Rattle.slices.specs.Limits.{chunk, maxRecords};
@@ -39,23 +40,24 @@ struct Span {
     end: u32,
 }
 
-// Answers with the pieces of the positions from `from` up to `end` of a list.
-fn planned(list: &[u8], from: u32, end: u32, block: u32, plan: &mut [u8]) -> Answer
+// Answers with the pieces of the positions from `from` up to `end` of a list, each with the index of its chunk.
+fn planned(list: &[u8], from: u32, end: u32, block: u32, index: u32, plan: &mut [u8]) -> Answer
     requires { ⌜ All Passes (records (now list)) ⌝ }
     requires { ⌜ (count (now list) ≤ maxRecords) × (from ≤ end) × (end ≤ chunk) ⌝ }
     requires { ⌜ blockAllowed block ≡ true ⌝ }
-    ensures { λ r. ⌜ Answers (delivered (encodePieces (pieces block (records (now (list .entry))) from (end - from))) (length (now (plan .entry)))) (now (plan .entry)) r (now (plan .exit)) ⌝ }
+    ensures { λ r. ⌜ Answers (delivered (chunkBytes index 0 (pieces block (records (now (list .entry))) from (end - from))) (length (now (plan .entry)))) (now (plan .entry)) r (now (plan .exit)) ⌝ }
 {
     let n = list.len() / RECORD;
     if n <= 32 {
-        return rooms::small(list, from, end, block, plan);
+        return rooms::small(list, from, end, block, index, plan);
     }
-    rooms::many(list, from, end, block, plan)
+    rooms::many(list, from, end, block, index, plan)
 }
 
 // Answers with the plan and the new list of a compaction that is not refused before: both lengths are known before either buffer is touched.
 fn compact_first(
     list: &[u8],
+    index: u32,
     block: u32,
     k: usize,
     new_id: u64,
@@ -65,7 +67,7 @@ fn compact_first(
     requires { ⌜ Accepts (now list) ⌝ }
     requires { ⌜ blockAllowed block ≡ true ⌝ }
     requires { ⌜ k ≤ count (now list) ⌝ }
-    ensures { λ r. ⌜ Compacts (deliveredBoth (both block (records (now (list .entry))) k «new_id») (length (now (plan .entry))) (length (now («new_list» .entry)))) (now (plan .entry)) (now («new_list» .entry)) r (now (plan .exit)) (now («new_list» .exit)) ⌝ }
+    ensures { λ r. ⌜ Compacts (deliveredBoth (both index block (records (now (list .entry))) k «new_id») (length (now (plan .entry))) (length (now («new_list» .entry)))) (now (plan .entry)) (now («new_list» .entry)) r (now (plan .exit)) (now («new_list» .exit)) ⌝ }
 {
     let cut = k * RECORD;
     let firsts = &list[..cut];
@@ -76,7 +78,7 @@ fn compact_first(
     if new_list.len() < list_bytes {
         return Compacted::Refused(refusals::refusal(refusals::SHORT_BUFFER));
     }
-    match planned(firsts, from, end, block, plan) {
+    match planned(firsts, from, end, block, index, plan) {
         Answer::Refused(refusal) => Compacted::Refused(refusal),
         Answer::Wrote(plan_bytes) => {
             new_list::write_list(list, cut, from, end, new_id, new_list);
@@ -91,6 +93,7 @@ fn compact_first(
 // Compacts an accepted list.
 fn compact_accepted(
     list: &[u8],
+    index: u32,
     block: u32,
     k: u64,
     new_id: u64,
@@ -99,7 +102,7 @@ fn compact_accepted(
 ) -> Compacted
     requires { ⌜ Accepts (now list) ⌝ }
     requires { ⌜ blockAllowed block ≡ true ⌝ }
-    ensures { λ r. ⌜ Compacts (firstOf (laterRows (records (now (list .entry))) block k «new_id» (length (now (plan .entry))) (length (now («new_list» .entry)))) (done (both block (records (now (list .entry))) k «new_id»))) (now (plan .entry)) (now («new_list» .entry)) r (now (plan .exit)) (now («new_list» .exit)) ⌝ }
+    ensures { λ r. ⌜ Compacts (firstOf (laterRows (records (now (list .entry))) index block k «new_id» (length (now (plan .entry))) (length (now («new_list» .entry)))) (done (both index block (records (now (list .entry))) k «new_id»))) (now (plan .entry)) (now («new_list» .entry)) r (now (plan .exit)) (now («new_list» .exit)) ⌝ }
 {
     if ((list.len() / RECORD) as u64) < k {
         return Compacted::Refused(refusals::refusal(refusals::TOO_FEW));
@@ -107,26 +110,38 @@ fn compact_accepted(
     if ids::in_use(list, new_id) {
         return Compacted::Refused(refusals::refusal(refusals::ID_IN_USE));
     }
-    compact_first(list, block, k as usize, new_id, plan, new_list)
+    compact_first(list, index, block, k as usize, new_id, plan, new_list)
 }
 
-// Writes the plan by which the first k records of a list are copied into a new slice, with objects of the given block size, and the new list,
-// in which one record of that slice stands for them.
+// Writes the plan by which the first k records of a list, of the chunk with the given index, are copied into a new slice, with objects of the given
+// block size, and the new list, in which one record of that slice stands for them.
 pub fn compact(
     list: &[u8],
+    index: u64,
     block_size: u64,
     k: u64,
     new_id: u64,
     plan: &mut [u8],
     new_list: &mut [u8],
 ) -> Compacted
-    ensures { λ r. ⌜ Compacts (compactOutcome (now (list .entry)) «block_size» k «new_id» (length (now (plan .entry))) (length (now («new_list» .entry)))) (now (plan .entry)) (now («new_list» .entry)) r (now (plan .exit)) (now («new_list» .exit)) ⌝ }
+    ensures { λ r. ⌜ Compacts (compactOutcome (now (list .entry)) index «block_size» k «new_id» (length (now (plan .entry))) (length (now («new_list» .entry)))) (now (plan .entry)) (now («new_list» .entry)) r (now (plan .exit)) (now («new_list» .exit)) ⌝ }
 {
+    if MAX_INDEX < index {
+        return Compacted::Refused(refusals::refusal(refusals::WRONG_CHUNKS));
+    }
     if block_allowed(block_size) {
         match check::check_list(list) {
             Checked::Refused(refusal) => Compacted::Refused(refusal),
             Checked::Accepted(_) => {
-                compact_accepted(list, block_size as u32, k, new_id, plan, new_list)
+                compact_accepted(
+                    list,
+                    index as u32,
+                    block_size as u32,
+                    k,
+                    new_id,
+                    plan,
+                    new_list,
+                )
             }
         }
     } else {

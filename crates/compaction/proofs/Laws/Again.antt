@@ -62,13 +62,13 @@ new-list-accepted bs b a k id h new wide =
     }
 
 -- what the call wrote as the new list is accepted
-pub compact-done-accepted : (bs : List ℕ) → Bytes bs → (B k id planRoom listRoom : ℕ) → id < 2 ^ 64 → (w : Both) → compactOutcome bs B k id planRoom listRoom ≡ done w
+pub compact-done-accepted : (bs : List ℕ) → Bytes bs → (index B k id planRoom listRoom : ℕ) → id < 2 ^ 64 → (w : Both) → compactOutcome bs index B k id planRoom listRoom ≡ done w
     → Accepts bs × Accepts (w .list)
 unfolding compactOutcome compactRows laterRows tooFew both
-compact-done-accepted bs b B k id planRoom listRoom wide w e =
-    let answers = both B (records bs) k id in
-    let rows = compactRows bs B k id planRoom listRoom in
-    let rest = done-none answers rows w e .1 in
+compact-done-accepted bs b index B k id planRoom listRoom wide w e =
+    let answers = both index B (records bs) k id in
+    let rows = compactRows bs index B k id planRoom listRoom in
+    let rest = done-none answers rows w e .1 .1 in
     let list = none-accepts bs (all-left (λ (r : Row). r .test ≡ false) (listRows bs) _ rest) in
     let later = all-right (λ (r : Row). r .test ≡ false) (listRows bs) _ rest in
     let few = ltb-false (length (records bs)) k (later .0) in

@@ -8,6 +8,7 @@ use mathlib.Core.Logic.{_↔_}
 use mathlib.Core.List.{List, [], _∷_}
 use lib.ListN.{length}
 use borrow.Author.Tests.{lt-ltb, le-ltb}
+use Rattle.slices.specs.Limits.{maxIndex}
 use Rattle.slices.specs.Record.{records, count}
 use Rattle.outcomes.specs.Numbers as number
 use Rattle.outcomes.specs.Outcome.{refused, done, refusal, firstOf, NoneHolds, Given, tooShort}
@@ -16,28 +17,36 @@ use Rattle.outcomes.proofs.Laws.Outcome.{row-holds, row-passes, short-holds, sh
 use Rattle.slices.proofs.Laws.Record.{length-records}
 use Rattle.slices.proofs.Laws.Refusals.{list-stops, list-lets}
 use Rattle.blocks.specs.Blocks.{blockAllowed, blockSizeBad}
+use Rattle.plans.specs.Calls.{pastIndex}
 use Rattle.compaction.specs.Calls.{tooFew, idInUse, Both, both, deliveredBoth, laterRows, compactRows, compactOutcome}
 use Rattle.outcomes.specs.declared.Refusal.{Refusal}
 use Rattle.slices.specs.declared.Checked.the-variants as check
 
 -- ---- the outcome
 
-module _ (bs : List ℕ) (B k id planRoom listRoom : ℕ) where
-  pub compact-8 : (t : Bool) → t ≡ blockAllowed B → t ≡ false → compactOutcome bs B k id planRoom listRoom ≡ refused (refusal number.blockSize 0)
-  unfolding compactOutcome compactRows blockSizeBad
-  compact-8 t h e = row-holds _ _ _ _ _ (ap not (sym h ∙ e))
+module _ (bs : List ℕ) (index B k id planRoom listRoom : ℕ) where
+  pub compact-21 : maxIndex < index → compactOutcome bs index B k id planRoom listRoom ≡ refused (refusal number.wrongChunks 0)
+  unfolding compactOutcome compactRows pastIndex
+  compact-21 i = row-holds _ _ _ _ _ (lt-ltb maxIndex index i)
 
-  module _ (t : Bool) (h : t ≡ blockAllowed B) (e : t ≡ true) where
-    pub compact-refused : (r : Refusal) → checked (checkOutcome bs) ≡ check.Refused r → compactOutcome bs B k id planRoom listRoom ≡ refused r
-    unfolding compactOutcome compactRows blockSizeBad
-    compact-refused r g = row-passes _ _ _ _ _ (ap not (sym h ∙ e)) ∙ list-stops bs _ _ r g
+  module _ (i : index ≤ maxIndex) (t : Bool) (h : t ≡ blockAllowed B) where
+    pub compact-8 : t ≡ false → compactOutcome bs index B k id planRoom listRoom ≡ refused (refusal number.blockSize 0)
+    unfolding compactOutcome compactRows pastIndex blockSizeBad
+    compact-8 e = row-passes _ _ _ _ _ (le-ltb maxIndex index i) ∙ row-holds _ _ _ _ _ (ap not (sym h ∙ e))
 
-    pub compact-accepted : (n : ℕ) → checked (checkOutcome bs) ≡ check.Accepted n
-        → compactOutcome bs B k id planRoom listRoom ≡ firstOf (laterRows (records bs) B k id planRoom listRoom) (done (both B (records bs) k id))
-    unfolding compactOutcome compactRows blockSizeBad
-    compact-accepted n g = row-passes _ _ _ _ _ (ap not (sym h ∙ e)) ∙ list-lets bs _ _ n g
+    module _ (e : t ≡ true) where
+      pub compact-refused : (r : Refusal) → checked (checkOutcome bs) ≡ check.Refused r → compactOutcome bs index B k id planRoom listRoom ≡ refused r
+      unfolding compactOutcome compactRows pastIndex blockSizeBad
+      compact-refused r g =
+          row-passes _ _ _ _ _ (le-ltb maxIndex index i) ∙ row-passes _ _ _ _ _ (ap not (sym h ∙ e)) ∙ list-stops bs _ _ r g
 
-  pub later-10 : count bs < k → firstOf (laterRows (records bs) B k id planRoom listRoom) (done (both B (records bs) k id)) ≡ refused (refusal number.tooFew 0)
+      pub compact-accepted : (n : ℕ) → checked (checkOutcome bs) ≡ check.Accepted n
+          → compactOutcome bs index B k id planRoom listRoom ≡ firstOf (laterRows (records bs) index B k id planRoom listRoom) (done (both index B (records bs) k id))
+      unfolding compactOutcome compactRows pastIndex blockSizeBad
+      compact-accepted n g =
+          row-passes _ _ _ _ _ (le-ltb maxIndex index i) ∙ row-passes _ _ _ _ _ (ap not (sym h ∙ e)) ∙ list-lets bs _ _ n g
+
+  pub later-10 : count bs < k → firstOf (laterRows (records bs) index B k id planRoom listRoom) (done (both index B (records bs) k id)) ≡ refused (refusal number.tooFew 0)
   unfolding laterRows tooFew
   later-10 l = row-holds _ _ _ _ _ (rw (length-records bs) (lt-ltb (count bs) k l))
 
@@ -47,22 +56,22 @@ module _ (bs : List ℕ) (B k id planRoom listRoom : ℕ) where
     enough = rw (length-records bs) (le-ltb (count bs) k l)
 
     pub later-9 : idInUse id (records bs) ≡ true
-        → firstOf (laterRows (records bs) B k id planRoom listRoom) (done (both B (records bs) k id)) ≡ refused (refusal number.idInUse 0)
+        → firstOf (laterRows (records bs) index B k id planRoom listRoom) (done (both index B (records bs) k id)) ≡ refused (refusal number.idInUse 0)
     unfolding laterRows
     later-9 u = row-passes _ _ _ _ _ enough ∙ row-holds _ _ _ _ _ u
 
     pub later-12 : idInUse id (records bs) ≡ false
-        → firstOf (laterRows (records bs) B k id planRoom listRoom) (done (both B (records bs) k id)) ≡ deliveredBoth (both B (records bs) k id) planRoom listRoom
+        → firstOf (laterRows (records bs) index B k id planRoom listRoom) (done (both index B (records bs) k id)) ≡ deliveredBoth (both index B (records bs) k id) planRoom listRoom
     unfolding laterRows
     later-12 u = row-passes _ _ _ _ _ enough ∙ row-passes _ _ _ _ _ u
 
-  pub compact-refused-exactly : (r : Refusal) → (compactOutcome bs B k id planRoom listRoom ≡ refused r) ↔ Given (compactRows bs B k id planRoom listRoom) r
+  pub compact-refused-exactly : (r : Refusal) → (compactOutcome bs index B k id planRoom listRoom ≡ refused r) ↔ Given (compactRows bs index B k id planRoom listRoom) r
   unfolding compactOutcome
-  compact-refused-exactly r = refused-exactly (both B (records bs) k id) (compactRows bs B k id planRoom listRoom) r
+  compact-refused-exactly r = refused-exactly (both index B (records bs) k id) (compactRows bs index B k id planRoom listRoom) r
 
-  pub compact-answered-exactly : (compactOutcome bs B k id planRoom listRoom ≡ done (both B (records bs) k id)) ↔ NoneHolds (compactRows bs B k id planRoom listRoom)
+  pub compact-answered-exactly : (compactOutcome bs index B k id planRoom listRoom ≡ done (both index B (records bs) k id)) ↔ NoneHolds (compactRows bs index B k id planRoom listRoom)
   unfolding compactOutcome
-  compact-answered-exactly = answered-exactly (both B (records bs) k id) (compactRows bs B k id planRoom listRoom)
+  compact-answered-exactly = answered-exactly (both index B (records bs) k id) (compactRows bs index B k id planRoom listRoom)
 
 -- ---- the two buffers
 

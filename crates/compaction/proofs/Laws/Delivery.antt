@@ -18,7 +18,7 @@ use Rattle.outcomes.specs.declared.Answer.the-variants.{Wrote, Refused}
 use Rattle.outcomes.specs.declared.Refusal.{Refusal}
 use Rattle.slices.specs.Passes.{Passes}
 use Rattle.slices.specs.Record.{encodeAll, count, records}
-use Rattle.plans.specs.Piece.{encodePieces}
+use Rattle.plans.specs.Piece.{chunkBytes}
 use Rattle.plans.specs.Plan.{pieces}
 use Rattle.compaction.specs.Compaction.{compactionPlan, planBytes, newList, newListBytes}
 use Rattle.compaction.specs.Calls.{both, deliveredBoth, Compacts}
@@ -46,10 +46,10 @@ module _ (bs : List ℕ) (b : Bytes bs) (whole : length bs % recordSize ≡ 0) (
   pub firsts-pass : All Passes (records bs) → All Passes (records firstBytes)
   firsts-pass p = rw (firsts-records bs b whole k h) (all-take Passes k (records bs) p)
 
-  module _ (from end : ℕ) (e : Ends (records firstBytes) from end) (B id : ℕ) where
-    plan-is : planBytes B (records bs) k ≡ encodePieces (pieces B (records firstBytes) from (end - from))
+  module _ (from end : ℕ) (e : Ends (records firstBytes) from end) (index B id : ℕ) where
+    plan-is : planBytes index B (records bs) k ≡ chunkBytes index 0 (pieces B (records firstBytes) from (end - from))
     unfolding planBytes compactionPlan
-    plan-is = ap encodePieces (rw (← firsts-records bs b whole k h) (e .plan B))
+    plan-is = ap (chunkBytes index 0) (rw (← firsts-records bs b whole k h) (e .plan B))
 
     list-is : newListBytes (records bs) k id ≡ encodeAll (standFor from end id) ++ drop (k * recordSize) bs
     unfolding newListBytes newList
@@ -62,25 +62,25 @@ module _ (bs : List ℕ) (b : Bytes bs) (whole : length bs % recordSize ≡ 0) (
 
       module _ (plan list : List ℕ) where
         pub first-short-list : length list < m + (length bs - k * recordSize)
-            → deliveredBoth (both B (records bs) k id) (length plan) (length list) ≡ refused (refusal number.shortBuffer 0)
+            → deliveredBoth (both index B (records bs) k id) (length plan) (length list) ≡ refused (refusal number.shortBuffer 0)
         unfolding both
-        first-short-list g = short-list (both B (records bs) k id) (length plan) (length list) (omega (arith, list-length))
+        first-short-list g = short-list (both index B (records bs) k id) (length plan) (length list) (omega (arith, list-length))
 
         -- what was answered for the plan
         module _ (l : m + (length bs - k * recordSize) ≤ length list) (plan' : List ℕ) (x : Answer)
-            (a : Answers (delivered (encodePieces (pieces B (records firstBytes) from (end - from))) (length plan)) plan x plan') where
+            (a : Answers (delivered (chunkBytes index 0 (pieces B (records firstBytes) from (end - from))) (length plan)) plan x plan') where
           pub first-refused : (r : Refusal) → x ≡ Refused r
-              → Compacts (deliveredBoth (both B (records bs) k id) (length plan) (length list)) plan list (compacted.Refused r) plan' list
+              → Compacts (deliveredBoth (both index B (records bs) k id) (length plan) (length list)) plan list (compacted.Refused r) plan' list
           unfolding both
           first-refused r e =
-              let y = short-said (encodePieces (pieces B (records firstBytes) from (end - from))) plan plan' x a r e in
-              replies-refused _ _ _ _ (short-plan (both B (records bs) k id) (length plan) (length list) (omega (arith, ap length plan-is, y .0))) (y .1) (y .2, (refl, tt))
+              let y = short-said (chunkBytes index 0 (pieces B (records firstBytes) from (end - from))) plan plan' x a r e in
+              replies-refused _ _ _ _ (short-plan (both index B (records bs) k id) (length plan) (length list) (omega (arith, ap length plan-is, y .0))) (y .1) (y .2, (refl, tt))
 
           pub first-done : (n : ℕ) → x ≡ Wrote n → (list' : List ℕ) → list' ≡ splice list 0 (encodeAll (standFor from end id) ++ drop (k * recordSize) bs)
-              → Compacts (deliveredBoth (both B (records bs) k id) (length plan) (length list)) plan list (compacted.Wrote n (m + (length bs - k * recordSize))) plan' list'
+              → Compacts (deliveredBoth (both index B (records bs) k id) (length plan) (length list)) plan list (compacted.Wrote n (m + (length bs - k * recordSize))) plan' list'
           unfolding both
           first-done n e list' q =
-              let y = done-said (encodePieces (pieces B (records firstBytes) from (end - from))) plan plan' x a n e in
-              replies-done _ (both B (records bs) k id) _ _
-              (room-for-both (both B (records bs) k id) (length plan) (length list) (omega (arith, ap length plan-is, y .0)) (omega (arith, list-length)))
+              let y = done-said (chunkBytes index 0 (pieces B (records firstBytes) from (end - from))) plan plan' x a n e in
+              replies-done _ (both index B (records bs) k id) _ _
+              (room-for-both (both index B (records bs) k id) (length plan) (length list) (omega (arith, ap length plan-is, y .0)) (omega (arith, list-length)))
               (rw (plan-is, list-length, y .1)) (y .2 ∙ ap (splice plan 0) (sym plan-is), (q ∙ ap (splice list 0) (sym list-is), tt))

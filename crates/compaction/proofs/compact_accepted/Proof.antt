@@ -12,7 +12,7 @@ refusal-requires c κs = search needs
 
 returns : tie.Need-returns
 unfolding count
-returns c = replies-refused _ _ _ _ (later-10 _ _ _ _ _ _ (c .before .if1 .taken)) (c .refusal .ensures) (refl, (refl, tt))
+returns c = replies-refused _ _ _ _ (later-10 _ _ _ _ _ _ _ (c .before .if1 .taken)) (c .refusal .ensures) (refl, (refl, tt))
 
 in-use-requires : tie.Need-in-use-requires
 in-use-requires c κs = search needs
@@ -24,7 +24,7 @@ returns-2 : tie.Need-returns-2
 unfolding count
 returns-2 c =
     let used = c .before .before in
-    replies-refused _ _ _ _ (later-9 _ _ _ _ _ _ (used .before .if1 .left) (sym (used .in-use .ensures) ∙ c .before .if2 .taken)) (c .refusal2 .ensures) (refl, (refl, tt))
+    replies-refused _ _ _ _ (later-9 _ _ _ _ _ _ _ (used .before .if1 .left) (sym (used .in-use .ensures) ∙ c .before .if2 .taken)) (c .refusal2 .ensures) (refl, (refl, tt))
 
 compact-first-requires : tie.Need-compact-first-requires
 unfolding count
@@ -45,7 +45,7 @@ returns-3 c =
     let first = c .before .before .before .before in
     let fresh = first .before .before .before in
     let used = fresh .before in
-    replies-as _ _ _ _ (later-12 _ _ _ _ _ _ (used .before .if1 .left) (sym (used .in-use .ensures) ∙ fresh .if2 .left)) (first .compact-first .ensures)
+    replies-as _ _ _ _ (later-12 _ _ _ _ _ _ _ (used .before .if1 .left) (sym (used .in-use .ensures) ∙ fresh .if2 .left)) (first .compact-first .ensures)
 
 pub compact-accepted-spec : {M : Type 1} → statement M
 compact-accepted-spec =

@@ -62,7 +62,7 @@ returns c =
     let known = span .before .before .before .before in
     let start = known .before in
     replies-refused _ _ _ _
-    (first-short-list _ (bytes known) (start .pre .0 .whole) _ (start .pre .1 .1) _ _ (span .span .ensures) _ (start .args .new-id) _ (new .stand-in-bytes .ensures) (now (start .args .plan)) (now (start .args .new-list)) (c .before .if1 .taken))
+    (first-short-list _ (bytes known) (start .pre .0 .whole) _ (start .pre .1 .1) _ _ (span .span .ensures) _ _ (start .args .new-id) _ (new .stand-in-bytes .ensures) (now (start .args .plan)) (now (start .args .new-list)) (c .before .if1 .taken))
     (c .refusal .ensures) (refl, (refl, tt))
 
 planned-requires : tie.Need-planned-requires
@@ -100,7 +100,7 @@ returns-2 c =
     let known = span .before .before .before .before in
     let start = known .before in
     let planned = c .before .before .before .before .before in
-    first-refused _ (bytes known) (start .pre .0 .whole) _ (start .pre .1 .1) _ _ (span .span .ensures) _ (start .args .new-id) _ (new .stand-in-bytes .ensures) _ _ (c .before .before .before .before .before .before .before .if1 .left) _ _ (planned .planned .ensures) _ (c .before .refusal2 .given .1)
+    first-refused _ (bytes known) (start .pre .0 .whole) _ (start .pre .1 .1) _ _ (span .span .ensures) _ _ (start .args .new-id) _ (new .stand-in-bytes .ensures) _ _ (c .before .before .before .before .before .before .before .if1 .left) _ _ (planned .planned .ensures) _ (c .before .refusal2 .given .1)
 
 same-length-2 : tie.Need-same-length-2
 same-length-2 c = search needs
@@ -115,7 +115,7 @@ returns-3 c =
     let known = span .before .before .before .before in
     let start = known .before in
     let planned = c .before .before .before .before .before .before .before .before .before in
-    first-done _ (bytes known) (start .pre .0 .whole) _ (start .pre .1 .1) _ _ (span .span .ensures) _ (start .args .new-id) _ (new .stand-in-bytes .ensures) _ _ (c .before .before .before .before .before .before .before .before .before .before .before .if1 .left) _ _ (planned .planned .ensures) _ (c .before .before .before .before .before .plan-bytes .given .1) _ (c .before .before .write-list .ensures)
+    first-done _ (bytes known) (start .pre .0 .whole) _ (start .pre .1 .1) _ _ (span .span .ensures) _ _ (start .args .new-id) _ (new .stand-in-bytes .ensures) _ _ (c .before .before .before .before .before .before .before .before .before .before .before .if1 .left) _ _ (planned .planned .ensures) _ (c .before .before .before .before .before .plan-bytes .given .1) _ (c .before .before .write-list .ensures)
 
 pub compact-first-spec : {M : Type 1} → statement M
 compact-first-spec =
