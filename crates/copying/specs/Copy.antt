@@ -9,7 +9,7 @@ use lib.Dec.{eqb}
 use lib.ListN.{take}
 use Rattle.runs.specs.Runs.{Run}
 use Rattle.plans.specs.Location.{location, onward}
-use Rattle.plans.specs.Piece.{piecesIn}
+use Rattle.plans.specs.Piece.{storeRuns}
 use Rattle.plans.specs.Store.{Store, fetch, fetched}
 use Rattle.compaction.specs.Compaction.{extent, planBytes}
 use Rattle.slices.specs.declared.Record.{Record}
@@ -37,9 +37,9 @@ pub record Copies (B id size : ℕ) (plan : List (Run Location)) (before after :
   -- Every other byte stays, and an empty plan sets none.
   pub stays : (q : Location) → ((o : ℕ) → Held plan o → ¬ (q ≡ location B (Byte id size o))) → fetch after q ≡ fetch before q
 
--- copying by the bytes of the plan of a compaction
-abbrev pub Copied : ℕ → List Record → (k id : ℕ) (before after : Store) → Type 0
-Copied B rs k id before after = Copies B id (extent (take k rs)) (piecesIn (planBytes B rs k)) before after
+-- copying by the bytes of the plan of a compaction, in the chunk with this index
+abbrev pub Copied : (index B : ℕ) → List Record → (k id : ℕ) (before after : Store) → Type 0
+Copied index B rs k id before after = Copies B id (extent (take k rs)) (storeRuns (planBytes index B rs k)) before after
 
 -- ---- a store that it makes
 
@@ -59,5 +59,5 @@ module _ (B id size : ℕ) (before : Store) where
   copy [] = before
   copy (r ∷ rs) = setBytes r (r .len) (copy rs)
 
-unfoldable pub copied : ℕ → List Record → (k id : ℕ) → Store → Store
-copied B rs k id before = copy B id (extent (take k rs)) before (piecesIn (planBytes B rs k))
+unfoldable pub copied : (index B : ℕ) → List Record → (k id : ℕ) → Store → Store
+copied index B rs k id before = copy B id (extent (take k rs)) before (storeRuns (planBytes index B rs k))

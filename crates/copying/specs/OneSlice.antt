@@ -32,8 +32,8 @@ pub record OneSlice : Type 0 where
   -- the tidied list that the call wrote is accepted
   pub tidied-again : (bs : List ℕ) → Bytes bs → (before after : List ℕ) (n : ℕ) → Answers (tidyOutcome bs (length before)) before (Wrote n) after → Accepts (take n after)
   -- the new list that compaction wrote is accepted
-  pub compacted-again : (bs : List ℕ) → Bytes bs → (B k id : ℕ) → id < 2 ^ 64 → (plan list plan' list' : List ℕ) (m n : ℕ)
-      → Compacts (compactOutcome bs B k id (length plan) (length list)) plan list (both.Wrote m n) plan' list' → Accepts (take n list')
+  pub compacted-again : (bs : List ℕ) → Bytes bs → (index B k id : ℕ) → id < 2 ^ 64 → (plan list plan' list' : List ℕ) (m n : ℕ)
+      → Compacts (compactOutcome bs index B k id (length plan) (length list)) plan list (both.Wrote m n) plan' list' → Accepts (take n list')
   -- "For the calls, joined lists must be accepted together": where the old list with records appended is accepted, and the new id is new in it, the
   -- new list with them is
   pub joined : (bs ys : List ℕ) → Bytes bs → Bytes ys → length bs % recordSize ≡ 0 → length ys % recordSize ≡ 0 → Accepts (bs ++ ys) → (k id : ℕ) → k ≤ count bs

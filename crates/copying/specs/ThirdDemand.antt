@@ -15,6 +15,7 @@ use Rattle.slices.specs.Passes.{Passes}
 use Rattle.views.specs.View.{tidied, tidiedBytes}
 use Rattle.views.specs.Calls.{tidyOutcome}
 use Rattle.blocks.specs.Blocks.{blockSizeBad}
+use Rattle.plans.specs.Calls.{pastIndex}
 use Rattle.plans.specs.Store.{Store, reads}
 use Rattle.compaction.specs.Compaction.{planBytes, newListBytes}
 use Rattle.compaction.specs.Calls.{tooFew, idInUse, compactOutcome, Compacts}
@@ -29,9 +30,10 @@ pub record Sound (rs : List Record) : Type 0 where
   pub pass : All Passes rs
   pub fit : All Fits rs
 
--- what compaction of a sound list is not refused: the block size B (8), the new id, a number of 8 bytes (9), and k (10)
-pub record Allowed (B : ℕ) (rs : List Record) (k id : ℕ) : Type 0 where
+-- what compaction of a sound list is not refused: the chunk's index (21), the block size B (8), the new id, a number of 8 bytes (9), and k (10)
+pub record Allowed (index B : ℕ) (rs : List Record) (k id : ℕ) : Type 0 where
   pub sound : Sound rs
+  pub indexed : pastIndex index ≡ false
   pub block : blockSizeBad B ≡ false
   pub number : id < 2 ^ 64
   pub new : idInUse id rs ≡ false
@@ -55,15 +57,15 @@ pub record ThirdDemand : Type 0 where
   pub tidied-wrote : (bs : List ℕ) → Bytes bs → (before after : List ℕ) (n : ℕ) → Answers (tidyOutcome bs (length before)) before (Wrote n) after
       → Sound (records bs) × Front (tidiedBytes (records bs)) n after
   -- "Where the compaction call succeeds, the plan and the new list are the bytes it wrote": of a compaction that is allowed
-  pub compacted-wrote : (bs : List ℕ) → Bytes bs → (B k id : ℕ) → id < 2 ^ 64 → (plan list plan' list' : List ℕ) (m n : ℕ)
-      → Compacts (compactOutcome bs B k id (length plan) (length list)) plan list (both.Wrote m n) plan' list'
-      → Allowed B (records bs) k id × Front (planBytes B (records bs) k) m plan' × Front (newListBytes (records bs) k id) n list'
+  pub compacted-wrote : (bs : List ℕ) → Bytes bs → (index B k id : ℕ) → id < 2 ^ 64 → (plan list plan' list' : List ℕ) (m n : ℕ)
+      → Compacts (compactOutcome bs index B k id (length plan) (length list)) plan list (both.Wrote m n) plan' list'
+      → Allowed index B (records bs) k id × Front (planBytes index B (records bs) k) m plan' × Front (newListBytes (records bs) k id) n list'
   -- "Copying turns the store before it into the store after it, by the plan": there is such a store
-  pub copying : (B : ℕ) (rs : List Record) (k id : ℕ) (before : Store) → Copied B rs k id before (copied B rs k id before)
-  -- "Old and new list, both with these records at the end, read the same byte at each position from the store after copying": for every k, new
-  -- id, store and list of appended records. "For the calls, joined lists must be accepted together" (paper 02, L8): refusal 16 looks at the whole of one.
-  pub compacted : (B : ℕ) (rs : List Record) (k id : ℕ) → Allowed B rs k id → (before after : Store) → Copied B rs k id before after
+  pub copying : (index B : ℕ) (rs : List Record) (k id : ℕ) (before : Store) → Copied index B rs k id before (copied index B rs k id before)
+  -- "Old and new list, both with these records at the end, read the same byte at each position from the store after copying": for every index, k,
+  -- new id, store and list of appended records. "For the calls, joined lists must be accepted together" (paper 02, L8): refusal 16 looks at the whole of one.
+  pub compacted : (index B : ℕ) (rs : List Record) (k id : ℕ) → Allowed index B rs k id → (before after : Store) → Copied index B rs k id before after
       → (ys : List Record) (p : ℕ) → p < chunk → reads B after (rs ++ ys) p ≡ reads B after (records (newListBytes rs k id) ++ ys) p
   -- "The old list alone also reads from it what it read from the store before."
-  pub old-reads : (B : ℕ) (rs : List Record) (k id : ℕ) → Allowed B rs k id → (before after : Store) → Copied B rs k id before after
+  pub old-reads : (index B : ℕ) (rs : List Record) (k id : ℕ) → Allowed index B rs k id → (before after : Store) → Copied index B rs k id before after
       → (p : ℕ) → reads B after rs p ≡ reads B before rs p

@@ -1,4 +1,4 @@
--- A compaction that is allowed: the third demand does not speak of nothing. Assumes nothing.
+-- A compaction that is allowed, in the last chunk there can be: the third demand does not speak of nothing. Assumes nothing.
 use mathlib.Core.Path.{refl}
 use mathlib.Core.Logic.{inr}
 use mathlib.Core.List.{List, [], _∷_}
@@ -6,6 +6,7 @@ use native.Mathlib.Omega.{arith}
 use lib.Dec.{lit≤, lit<}
 use Rattle.slices.specs.Limits.{chunk}
 use Rattle.blocks.specs.Blocks.{blockSizeBad, blockAllowed, powerBelow}
+use Rattle.plans.specs.Calls.{pastIndex}
 use Rattle.compaction.specs.Calls.{tooFew, idInUse}
 use Rattle.slices.specs.Ids.{stands}
 use Rattle.copying.specs.ThirdDemand.{Allowed}
@@ -15,8 +16,8 @@ use Rattle.slices.specs.declared.Record.{Record}
 abbrev example : List Record
 example = record { pos = 4; id = 7; size = 20; off = 2; len = 8 } ∷ record { pos = 6; id = 0; size = 3; off = 0; len = 3 } ∷ []
 
-pub example-allowed : Allowed 65536 example 2 9
-unfolding chunk blockSizeBad blockAllowed powerBelow tooFew stands idInUse
+pub example-allowed : Allowed 4294967295 65536 example 2 9
+unfolding chunk pastIndex blockSizeBad blockAllowed powerBelow tooFew stands idInUse
 example-allowed =
     record {
       sound =
@@ -30,6 +31,7 @@ example-allowed =
               (record { pos = lit< tt; id = lit< tt; size = lit< tt; off = lit< tt; len = lit< tt }, tt),
             );
           };
+      indexed = refl;
       block = refl;
       number = lit< tt;
       new = refl;

@@ -41,45 +41,46 @@ module _ (bs : List ℕ) (b : Bytes bs) where
         rw (done-is (tidiedBytes (records bs)) rows (w .bytes) (w .outcome)) at (w .first),
       )
 
-  module _ (B k id : ℕ) (wide : id < 2 ^ 64) (plan list plan' list' : List ℕ) (m n : ℕ) where
+  module _ (index B k id : ℕ) (wide : id < 2 ^ 64) (plan list plan' list' : List ℕ) (m n : ℕ) where
     abbrev rows : List Row
-    rows = compactRows bs B k id (length plan) (length list)
+    rows = compactRows bs index B k id (length plan) (length list)
 
-    allowed : NoneHolds rows → Allowed B (records bs) k id
+    allowed : NoneHolds rows → Allowed index B (records bs) k id
     unfolding compactRows laterRows
     allowed h =
-        let rest = h .1 in
+        let rest = h .1 .1 in
         let later = all-right (λ (r : Row). r .test ≡ false) (listRows bs) _ rest in
         record {
           sound = list-sound (all-left (λ (r : Row). r .test ≡ false) (listRows bs) _ rest);
-          block = h .0;
+          indexed = h .0;
+          block = h .1 .0;
           number = wide;
           new = later .1 .0;
           enough = later .0;
         }
 
-    pub compacted-wrote : Compacts (compactOutcome bs B k id (length plan) (length list)) plan list (both.Wrote m n) plan' list'
-        → Allowed B (records bs) k id × Front (planBytes B (records bs) k) m plan' × Front (newListBytes (records bs) k id) n list'
+    pub compacted-wrote : Compacts (compactOutcome bs index B k id (length plan) (length list)) plan list (both.Wrote m n) plan' list'
+        → Allowed index B (records bs) k id × Front (planBytes index B (records bs) k) m plan' × Front (newListBytes (records bs) k id) n list'
     unfolding compactOutcome answerOf leftIn both
-    compacted-wrote a = go (compactOutcome bs B k id (length plan) (length list)) refl a
+    compacted-wrote a = go (compactOutcome bs index B k id (length plan) (length list)) refl a
       where
-        go : (o : Outcome Both) → firstOf rows (done (both B (records bs) k id)) ≡ o → Compacts o plan list (both.Wrote m n) plan' list'
-            → Allowed B (records bs) k id × Front (planBytes B (records bs) k) m plan' × Front (newListBytes (records bs) k id) n list'
+        go : (o : Outcome Both) → firstOf rows (done (both index B (records bs) k id)) ≡ o → Compacts o plan list (both.Wrote m n) plan' list'
+            → Allowed index B (records bs) k id × Front (planBytes index B (records bs) k) m plan' × Front (newListBytes (records bs) k id) n list'
         go (refused r) e a = let z : _≡_ {A = ℕ} 0 1 = cc (a .answers) in absurd (omega arith)
         go (done b) e a =
-            let same = done-is (both B (records bs) k id) rows b e in (
-              allowed (done-none (both B (records bs) k id) rows b e),
+            let same = done-is (both index B (records bs) k id) rows b e in (
+              allowed (done-none (both index B (records bs) k id) rows b e),
               front-of plan plan' _ m (cc (a .answers, same)) (a .leaves .0 ∙ rw same),
               front-of list list' _ n (cc (a .answers, same)) (a .leaves .1 .0 ∙ rw same),
             )
 
     -- and the new list is accepted again
-    pub compacted-wrote-accepted : Compacts (compactOutcome bs B k id (length plan) (length list)) plan list (both.Wrote m n) plan' list' → Accepts (take n list')
+    pub compacted-wrote-accepted : Compacts (compactOutcome bs index B k id (length plan) (length list)) plan list (both.Wrote m n) plan' list' → Accepts (take n list')
     unfolding answerOf leftIn
-    compacted-wrote-accepted a = go (compactOutcome bs B k id (length plan) (length list)) refl a
+    compacted-wrote-accepted a = go (compactOutcome bs index B k id (length plan) (length list)) refl a
       where
-        go : (o : Outcome Both) → compactOutcome bs B k id (length plan) (length list) ≡ o → Compacts o plan list (both.Wrote m n) plan' list' → Accepts (take n list')
+        go : (o : Outcome Both) → compactOutcome bs index B k id (length plan) (length list) ≡ o → Compacts o plan list (both.Wrote m n) plan' list' → Accepts (take n list')
         go (refused r) e a = let z : _≡_ {A = ℕ} 0 1 = cc (a .answers) in absurd (omega arith)
         go (done w) e a =
             let new = front-of list list' (w .list) n (cc (a .answers)) (a .leaves .1 .0) in
-            rw (new .front) (compact-done-accepted bs b B k id (length plan) (length list) wide w e .1)
+            rw (new .front) (compact-done-accepted bs b index B k id (length plan) (length list) wide w e .1)

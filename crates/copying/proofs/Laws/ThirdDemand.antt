@@ -10,7 +10,7 @@ use Rattle.views.specs.View.{tidied, tidiedBytes}
 use Rattle.views.proofs.Laws.Fits.{tidied-fits}
 use Rattle.views.proofs.Laws.Tidied.{cover-replaced, tidied-same-bytes}
 use lib.ListN.{take}
-use Rattle.plans.specs.Piece.{piecesIn}
+use Rattle.plans.specs.Piece.{storeRuns}
 use Rattle.plans.specs.Store.{Store}
 use Rattle.compaction.specs.Compaction.{extent, planBytes}
 use Rattle.copying.specs.Copy.{Copied, copied}
@@ -33,9 +33,9 @@ tidied-records : (rs : List Record) → Sound rs → records (tidiedBytes rs) �
 unfolding tidiedBytes
 tidied-records rs h = records-back (tidied rs) (tidied-fits rs (h .pass) (h .fit))
 
-copying : (B : ℕ) (rs : List Record) (k id : ℕ) (before : Store) → Copied B rs k id before (copied B rs k id before)
+copying : (index B : ℕ) (rs : List Record) (k id : ℕ) (before : Store) → Copied index B rs k id before (copied index B rs k id before)
 unfolding copied
-copying B rs k id before = copy-copies B id (extent (take k rs)) before (piecesIn (planBytes B rs k))
+copying index B rs k id before = copy-copies B id (extent (take k rs)) before (storeRuns (planBytes index B rs k))
 
 pub third-demand : ThirdDemand
 third-demand =

@@ -1,13 +1,12 @@
 -- What `read_plan` writes fetches what the list reads: from any store, for every place of the read. Assumes nothing.
 use Prim.Native.Nat.{ℕ, _+_, _^_, _<_, _≤_}
-use native.Mathlib.Omega.{arith}
 use mathlib.Core.Path.{_≡_}
 use mathlib.Core.Bool.{false}
 use mathlib.Core.List.{List, map}
 use borrow.Author.Tests.{ltb-false}
 use Rattle.codec.specs.All.{All, Bytes}
 use Rattle.codec.proofs.Laws.All.{all-left}
-use Rattle.slices.specs.Limits.{chunk, maxIndex}
+use Rattle.slices.specs.Limits.{chunk}
 use Rattle.slices.specs.Passes.{Passes}
 use Rattle.slices.specs.Record.{records}
 use Rattle.outcomes.specs.Outcome.{done, Row, NoneHolds}
@@ -17,7 +16,8 @@ use Rattle.slices.proofs.Laws.Refusals.{none-accepts}
 use Rattle.plans.specs.Piece.{inChunk, piecesIn, storeRuns}
 use Rattle.plans.specs.Plan.{cutTo, readPlan}
 use Rattle.plans.specs.Store.{Store, reads, fetched}
-use Rattle.plans.specs.Calls.{pastIndex, planBytes, readRows, readOutcome}
+use Rattle.plans.specs.Calls.{planBytes, readRows, readOutcome}
+use Rattle.plans.proofs.Laws.Fits.{index-fits}
 use Rattle.plans.proofs.Laws.Bytes.{plan-back, plan-bytes-back}
 
 module _ (bs : List ℕ) (b : Bytes bs) (index l B start count room : ℕ) (out : List ℕ) (h : readOutcome bs index l B start count room ≡ done out) where
@@ -34,8 +34,8 @@ module _ (bs : List ℕ) (b : Bytes bs) (index l B start count room : ℕ) (out 
   passed = none-accepts bs (all-left (λ (r : Row). r .test ≡ false) (listRows bs) _ (no-row .1 .1 .1)) .pass
 
   indexed : index < 2 ^ 32
-  unfolding readRows pastIndex
-  indexed = omega (arith, ltb-false maxIndex index (no-row .1 .0))
+  unfolding readRows
+  indexed = index-fits index (no-row .1 .0)
 
   short : l ≤ chunk
   unfolding readRows chunkTooLong

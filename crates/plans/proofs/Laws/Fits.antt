@@ -2,9 +2,12 @@
 use Prim.Native.Nat.{ℕ, _+_, _-_, _*_, _/_, _%_, _^_, _<_, _≤_, min}
 use native.Mathlib.Omega.{arith}
 use native.Mathlib.Nat.{div-le-self, mod-le}
+use mathlib.Core.Path.{_≡_}
+use mathlib.Core.Bool.{false}
 use mathlib.Core.List.{List, [], _∷_, map}
+use borrow.Author.Tests.{ltb-false}
 use Rattle.codec.specs.All.{All}
-use Rattle.slices.specs.Limits.{chunk}
+use Rattle.slices.specs.Limits.{chunk, maxIndex}
 use Rattle.slices.specs.Cover.{cover}
 use Rattle.slices.specs.Passes.{Passes}
 use Rattle.slices.specs.Record.{Fits}
@@ -14,6 +17,7 @@ use Rattle.runs.proofs.Laws.Runs.{valid-le}
 use Rattle.slices.proofs.Laws.Sources.{Real, IdFits, cover-real, cover-id}
 use Rattle.plans.specs.Location.{location, locationAt, nextLocation}
 use Rattle.plans.specs.Piece.{pieceOf, inChunk, PieceFits, RunFits}
+use Rattle.plans.specs.Calls.{pastIndex}
 use Rattle.plans.specs.Plan.{cutTo, locationFrom, pieces, readPlan}
 use Rattle.plans.proofs.Laws.Divide.{pieces-divide}
 use Rattle.slices.specs.declared.Record.{Record}
@@ -30,6 +34,11 @@ LocationFits (In i b l a) = (i < 2 ^ 64) × (b < 2 ^ 32) × (l < 2 ^ 32) × (a <
 in-chunk : (n : ℕ) → n ≤ chunk → n < 2 ^ 32
 unfolding chunk
 in-chunk n h = omega arith
+
+-- an index that is not refused
+pub index-fits : (index : ℕ) → pastIndex index ≡ false → index < 2 ^ 32
+unfolding pastIndex
+index-fits index h = omega (arith, ltb-false maxIndex index h)
 
 location-fits : (B : ℕ) (s : Source) → Real s → IdFits s → LocationFits (location B s)
 unfolding location blockLength
