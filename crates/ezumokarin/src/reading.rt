@@ -11,14 +11,15 @@ ghost use Rattle.ezumokarin.specs.Plain.{wrote};
 #[no_mangle]
 pub extern "C" fn ezk_read_plan(
     list: &[u8],
+    index: u64,
     chunk_len: u64,
     block_size: u64,
     start: u64,
     count: u64,
     out: &mut [u8],
 ) -> Plain
-    ensures { λ r. ⌜ r ≡ wrote (readOutcome (now (list .entry)) «chunk_len» «block_size» start count (length (now (out .entry)))) ⌝ }
-    ensures { λ _. ⌜ now (out .exit) ≡ buffer (readOutcome (now (list .entry)) «chunk_len» «block_size» start count (length (now (out .entry)))) (now (out .entry)) ⌝ }
+    ensures { λ r. ⌜ r ≡ wrote (readOutcome (now (list .entry)) index «chunk_len» «block_size» start count (length (now (out .entry)))) ⌝ }
+    ensures { λ _. ⌜ now (out .exit) ≡ buffer (readOutcome (now (list .entry)) index «chunk_len» «block_size» start count (length (now (out .entry)))) (now (out .entry)) ⌝ }
 {
-    answers::of_answer(plans::read_plan(list, chunk_len, block_size, start, count, out))
+    answers::of_answer(plans::read_plan(list, index, chunk_len, block_size, start, count, out))
 }
