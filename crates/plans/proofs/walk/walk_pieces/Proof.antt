@@ -66,7 +66,7 @@ reach-requires c κs =
     (p .0, ((turn .loop-test .taken, p .1 .0 .1, p .1 .0 .2), held turn))
 
 sub-put-if : tie.Need-sub-put-if Inv-loop μ-loop
-sub-put-if c = c .before .before .before .loop .inv .2
+sub-put-if c = omega (arith, c .before .before .before .loop .inv .2)
 
 cast-put-if : tie.Need-cast-put-if Inv-loop μ-loop
 cast-put-if c = search needs
