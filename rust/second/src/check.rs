@@ -1,6 +1,6 @@
-//! Refusals 7, 8, 1 to 6 and 16: what is wrong with the inputs of a call.
+//! Refusals 7, 21 of an index, 8, 1 to 6 and 16: what is wrong with the inputs of a call.
 
-use crate::limits::{BLOCK_SIZE_MAX, BLOCK_SIZE_MIN, CHUNK, LIST_RECORDS, RECORD};
+use crate::limits::{BLOCK_SIZE_MAX, BLOCK_SIZE_MIN, CHUNK, INDEX_MAX, LIST_RECORDS, RECORD};
 use crate::{Answer, Record, Refusal};
 
 /// How many records an acceptable list has.
@@ -12,6 +12,14 @@ pub fn check(list: &[u8]) -> Answer {
 pub fn chunk_length(length: u64) -> Result<(), Refusal> {
     if length > CHUNK {
         return Err(Refusal::of(7));
+    }
+    Ok(())
+}
+
+/// Refusal 21 of a single chunk.
+pub fn index(index: u64) -> Result<(), Refusal> {
+    if index > INDEX_MAX {
+        return Err(Refusal::of(21));
     }
     Ok(())
 }

@@ -11,16 +11,17 @@ pub struct Compacted {
     pub list: usize,
 }
 
-/// Refusals 8, 1, 2, 3 to 6, 16, 10, 9, 12.
+/// Refusals 21, 8, 1, 2, 3 to 6, 16, 10, 9, 12.
 pub fn compact(
     list: &[u8],
+    index: u64,
     block_size: u64,
     k: u64,
     new_id: u64,
     plan: &mut [u8],
     new_list: &mut [u8],
 ) -> Result<Compacted, Refusal> {
-    put_both(compact_bytes(list, block_size, k, new_id), plan, new_list)
+    put_both(compact_bytes(list, index, block_size, k, new_id), plan, new_list)
 }
 
 /// Writes both answers; refusal 12, and no byte written, where either doesn't fit.
@@ -41,10 +42,12 @@ pub fn put_both(
 /// The plan and the new list, however short the caller's buffers may be.
 pub fn compact_bytes(
     list: &[u8],
+    index: u64,
     block_size: u64,
     k: u64,
     new_id: u64,
 ) -> Result<(Vec<u8>, Vec<u8>), Refusal> {
+    check::index(index)?;
     check::block_size(block_size)?;
     let records = check::records(list)?;
     if k > records.len() as u64 {
@@ -59,7 +62,7 @@ pub fn compact_bytes(
         return Ok((Vec::new(), rest.to_vec()));
     };
     let size = q - p + 1;
-    let plan = plan_bytes(first, block_size, p, q + 1);
+    let plan = plan_bytes(first, index, block_size, p, q + 1);
     let mut new_list = Record::new(p, new_id, size, 0, size).to_bytes().to_vec();
     new_list.extend_from_slice(rest);
     Ok((plan, new_list))

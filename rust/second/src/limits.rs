@@ -5,11 +5,13 @@ pub const CHUNK: u64 = 67_108_864;
 /// Bytes of a slice record.
 pub const RECORD: usize = 24;
 /// Bytes of a piece of a plan.
-pub const PIECE: usize = 30;
+pub const PIECE: usize = 34;
 /// Records that a list may have (refusal 2).
 pub const LIST_RECORDS: usize = 2_048;
 /// Records that a tidied list may have (refusal 11).
 pub const TIDIED_RECORDS: usize = 2_048;
+/// Lists that a read of a file may have (refusal 21).
+pub const FILE_LISTS: usize = 16;
 /// Smallest block size.
 pub const BLOCK_SIZE_MIN: u64 = 65_536;
 /// Largest block size, and so the largest block length in a name.

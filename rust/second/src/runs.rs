@@ -14,22 +14,34 @@ pub struct Run<T> {
     pub first: T,
 }
 
+impl<T> Run<T> {
+    /// The same positions with another first value.
+    pub fn with<U>(&self, first: U) -> Run<U> {
+        Run { start: self.start, len: self.len, first }
+    }
+}
+
 /// Divides the positions from `from` up to `to` at every boundary of a record.
 /// Inside a part the same records cover all positions.
 pub fn parts(records: &[Record], from: u64, to: u64) -> Vec<Run<Source>> {
-    let mut cuts = vec![from, to];
-    for record in records {
-        cuts.push(record.pos.clamp(from, to));
-        cuts.push(record.end().clamp(from, to));
-    }
+    let edges = records.iter().flat_map(|record| [record.pos, record.end()]);
+    divided(edges, from, to)
+        .map(|(start, len)| Run { start, len, first: source_at(records, start) })
+        .collect()
+}
+
+/// The starts and lengths that these edges, in any order, make of `from` up to `to`.
+pub fn divided(
+    edges: impl Iterator<Item = u64>,
+    from: u64,
+    to: u64,
+) -> impl Iterator<Item = (u64, u64)> {
+    let mut cuts: Vec<u64> = edges.map(|edge| edge.clamp(from, to)).collect();
+    cuts.extend([from, to]);
     cuts.sort_unstable();
     cuts.dedup();
-    let part = |cut: &[u64]| Run {
-        start: cut[0],
-        len: cut[1] - cut[0],
-        first: source_at(records, cut[0]),
-    };
-    cuts.windows(2).map(part).collect()
+    let starts = cuts.clone();
+    starts.into_iter().zip(cuts.into_iter().skip(1)).map(|(start, end)| (start, end - start))
 }
 
 /// Joins neighbours where the later one is what the earlier one goes on with.
