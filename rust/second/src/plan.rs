@@ -45,13 +45,7 @@ pub fn read_plan_bytes(
 
 /// The bytes of the plan for positions `from` up to `to` of any records, also of a list that is
 /// refused.
-pub fn plan_bytes(
-    records: &[Record],
-    index: u64,
-    block_size: u64,
-    from: u64,
-    to: u64,
-) -> Vec<u8> {
+pub fn plan_bytes(records: &[Record], index: u64, block_size: u64, from: u64, to: u64) -> Vec<u8> {
     let mut locations = Vec::new();
     for part in parts(records, from, to) {
         locations.extend(in_blocks(part, block_size));

@@ -78,11 +78,11 @@ fn beginning_is_of_bytes() {
 #[test]
 fn compacted_list_is_rewritten() {
     let older = list(&[A, B, C]);
-    let (_, newer) = compact_bytes(&older, BLOCK, 2, 9).expect("a plan");
+    let (_, newer) = compact_bytes(&older, 0, BLOCK, 2, 9).expect("a plan");
     assert_eq!(rewritten(&older, &newer), Ok(true));
     assert_eq!(rows(added(&older, &newer)), [(0, 9, 20, 0, 20), C]);
     // Of no records there is nothing to compact.
-    let (_, newer) = compact_bytes(&older, BLOCK, 0, 9).expect("a plan");
+    let (_, newer) = compact_bytes(&older, 0, BLOCK, 0, 9).expect("a plan");
     assert_eq!(rewritten(&older, &newer), Ok(false));
 }
 

@@ -2,17 +2,25 @@
 
 mod common;
 use common::*;
+use second::limits::PIECE;
 use second::Location::{Object, Zeros};
 use second::{compact, plan_bytes, read_plan, Compacted, Location, Piece};
 
+/// The chunk index given, which every piece carries.
+const INDEX: u64 = 0x0102_0304;
+
 fn plan(list: &[u8], start: u64, count: u64) -> Vec<(u64, Location, u64)> {
     let mut out = vec![0; 60_000];
-    let count = read_plan(list, CHUNK, BLOCK, start, count, &mut out).expect("a plan");
+    let count = read_plan(list, INDEX, CHUNK, BLOCK, start, count, &mut out).expect("a plan");
     pieces(&out[..count])
 }
 
 fn pieces(plan: &[u8]) -> Vec<(u64, Location, u64)> {
-    plan.chunks(30).map(Piece::from_bytes).map(|p| (p.place, p.from, p.len)).collect()
+    let row = |piece: Piece| {
+        assert_eq!(piece.index, INDEX);
+        (piece.place, piece.from, piece.len)
+    };
+    plan.chunks(PIECE).map(Piece::from_bytes).map(row).collect()
 }
 
 /// A part of an object of document 000, in MiB: id, block, block length, place.
@@ -31,17 +39,26 @@ fn two_pieces_of_the_paper() {
 
 #[test]
 fn bytes_of_the_first_piece() {
-    let mut out = [0; 60];
-    let count = read_plan(&list_of_000(), CHUNK, BLOCK, 15_728_640, 2_097_152, &mut out);
-    assert_eq!(count, Ok(60));
+    let mut out = [0; 68];
+    let count = read_plan(&list_of_000(), INDEX, CHUNK, BLOCK, 15_728_640, 2_097_152, &mut out);
+    assert_eq!(count, Ok(68));
+    let index = [1, 2, 3, 4];
     let place = [0, 0, 0, 0];
     let id = [0, 0, 0, 0, 0, 0, 0, 10];
     let block = [0, 0, 0, 1];
     let length = [0, 0x40, 0, 0];
     let at = [0, 0x10, 0, 0];
     let len = [0, 0x10, 0, 0];
-    let piece = [&b"RB"[..], &place, &id, &block, &length, &at, &len].concat();
-    assert_eq!(out[..30], piece);
+    let piece = [&b"RB"[..], &index, &place, &id, &block, &length, &at, &len].concat();
+    assert_eq!(out[..34], piece);
+}
+
+#[test]
+fn bytes_of_zeros() {
+    let mut out = [0xee; 34];
+    assert_eq!(read_plan(&[], INDEX, CHUNK, BLOCK, 9, 256, &mut out), Ok(34));
+    let piece = [&b"RZ"[..], &[1, 2, 3, 4], &[0; 4], &[0; 8], &[0; 12], &[0, 0, 1, 0]].concat();
+    assert_eq!(out[..], piece);
 }
 
 /// The objects that 000 lists for its chunk.
@@ -98,34 +115,33 @@ fn zeros_beside_holes_are_one_piece() {
 /// Only in the definition: the calls refuse such a list.
 #[test]
 fn two_sizes_share_their_full_blocks() {
-    let defined = |list: &[u8]| pieces(&plan_bytes(&decoded(list), BLOCK, 0, 20));
+    let defined = |list: &[u8]| pieces(&plan_bytes(&decoded(list), INDEX, BLOCK, 0, 20));
     let both = list(&[(0, 7, BLOCK, 0, 10), (10, 7, 2 * BLOCK, 10, 10)]);
     assert_eq!(defined(&both), [(0, object(7, 0, 4, 0), 20)]);
     let apart = list(&[(0, 7, 100, 0, 10), (10, 7, 101, 10, 10)]);
     let at = |length, at| Object { id: 7, block: 0, length, at };
     assert_eq!(defined(&apart), [(0, at(100, 0), 10), (10, at(101, 10), 10)]);
     for refused in [both, apart] {
-        assert_eq!(read_plan(&refused, CHUNK, BLOCK, 0, 20, &mut [0; 60]), Err(no_at(16, 1)));
+        assert_eq!(read_plan(&refused, 0, CHUNK, BLOCK, 0, 20, &mut [0; 68]), Err(no_at(16, 1)));
     }
 }
 
 #[test]
 fn compaction_of_two_of_three() {
     let list = list(&[(8, 7, 10, 0, 4), (20, 0, 0, 0, 2), (9, 8, 1, 0, 1)]);
-    let (mut plan, mut new_list) = ([0; 90], [0; 48]);
-    let counts = compact(&list, BLOCK, 2, 9, &mut plan, &mut new_list);
-    assert_eq!(counts, Ok(Compacted { plan: 60, list: 48 }));
+    let (mut plan, mut new_list) = ([0; 102], [0; 48]);
+    let counts = compact(&list, INDEX, BLOCK, 2, 9, &mut plan, &mut new_list);
+    assert_eq!(counts, Ok(Compacted { plan: 68, list: 48 }));
     assert_eq!(rows(&new_list), [(8, 9, 14, 0, 14), (9, 8, 1, 0, 1)]);
-    let slice = Piece { place: 0, from: Object { id: 7, block: 0, length: 10, at: 0 }, len: 4 };
-    let zeros = Piece { place: 4, from: Zeros, len: 10 };
-    assert_eq!(plan[..60], [slice.to_bytes(), zeros.to_bytes()].concat());
+    let slice = Object { id: 7, block: 0, length: 10, at: 0 };
+    assert_eq!(pieces(&plan[..68]), [(0, slice, 4), (4, Zeros, 10)]);
 }
 
 #[test]
 fn compaction_of_what_covers_nothing() {
     let list = list(&[(8, 7, 10, 0, 0), (20, 0, 0, 0, 2)]);
     let mut new_list = [0; 24];
-    let counts = compact(&list, BLOCK, 1, 9, &mut [], &mut new_list);
+    let counts = compact(&list, INDEX, BLOCK, 1, 9, &mut [], &mut new_list);
     assert_eq!(counts, Ok(Compacted { plan: 0, list: 24 }));
     assert_eq!(rows(&new_list), [(20, 0, 0, 0, 2)]);
 }
@@ -133,7 +149,7 @@ fn compaction_of_what_covers_nothing() {
 #[test]
 fn new_id_may_stand_in_no_record() {
     let list = list(&[(0, 7, 10, 0, 4), (0, 8, 1, 0, 0)]);
-    let refused = |k, id| compact(&list, BLOCK, k, id, &mut [0; 90], &mut [0; 90]).err();
+    let refused = |k, id| compact(&list, 0, BLOCK, k, id, &mut [0; 102], &mut [0; 102]).err();
     assert_eq!(refused(1, 0), Some(no(9)));
     assert_eq!(refused(1, 8), Some(no(9)));
     assert_eq!(refused(3, 8), Some(no(10)));

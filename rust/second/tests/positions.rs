@@ -6,10 +6,12 @@ mod common;
 use common::random::zeros_size;
 use common::*;
 use rng::Rng;
+use second::limits::PIECE;
 use second::{plan_bytes, read_plan_bytes, view_bytes, view_of};
 use second::{source_at, Location, Piece, Record, Refusal, Source};
 
 const END: u64 = 60;
+const INDEX: u64 = 4_294_967_295;
 
 /// Records of few ids, sizes and places, so that they meet often. Where a slice has two sizes the
 /// definitions still say what is seen, and the calls refuse.
@@ -88,7 +90,8 @@ fn answers_or_16(records: &[Record], answer: Result<Vec<u8>, Refusal>, defined: 
 /// The location of each byte of a read, as the pieces of a plan give it.
 fn locations(bytes: &[u8]) -> Vec<Location> {
     let mut locations = Vec::new();
-    for piece in bytes.chunks(30).map(Piece::from_bytes) {
+    for piece in bytes.chunks(PIECE).map(Piece::from_bytes) {
+        assert_eq!(piece.index, INDEX);
         assert_eq!(piece.place, locations.len() as u64);
         assert!(piece.len > 0);
         for i in 0..piece.len {
@@ -145,11 +148,12 @@ fn plan_is_the_cover_in_fewest_pieces() {
         let (start, count) = (random.below(END + 5), random.below(END + 5));
         let records = decoded(&list);
         let end = chunk_len.min(start + count).max(start);
-        let out = plan_bytes(&records, 65_536, start, end);
+        let out = plan_bytes(&records, INDEX, 65_536, start, end);
         let read: Vec<Location> =
             (start..end).map(|p| lies(source_at(&records, p), 65_536)).collect();
         assert_eq!(locations(&out), read);
-        assert_eq!(out.len() / 30, pieces_in(&read));
-        answers_or_16(&records, read_plan_bytes(&list, chunk_len, 65_536, start, count), out);
+        assert_eq!(out.len() / PIECE, pieces_in(&read));
+        let answer = read_plan_bytes(&list, INDEX, chunk_len, 65_536, start, count);
+        answers_or_16(&records, answer, out);
     }
 }

@@ -4,6 +4,9 @@ mod common;
 use common::*;
 use second::*;
 
+/// The first index past 32 bits.
+const PAST: u64 = 4_294_967_296;
+
 #[test]
 fn sums_are_those_of_mathematics() {
     let most = 4_294_967_295;
@@ -94,26 +97,44 @@ fn order_of_two_sizes() {
     assert_eq!(view(&list, CHUNK + 1, &mut []), Err(no(7)));
     assert_eq!(view(&list, CHUNK, &mut []), Err(no_at(16, 1)));
     assert_eq!(tidy(&list, &mut []), Err(no_at(16, 1)));
-    assert_eq!(read_plan(&list, 9, BLOCK, 0, 9, &mut []), Err(no_at(16, 1)));
+    assert_eq!(read_plan(&list, 0, 9, BLOCK, 0, 9, &mut []), Err(no_at(16, 1)));
     for (block_size, refusal) in [(0, no(8)), (BLOCK, no_at(16, 1))] {
-        assert_eq!(compact(&list, block_size, 3, 7, &mut [], &mut []), Err(refusal));
+        assert_eq!(compact(&list, 0, block_size, 3, 7, &mut [], &mut []), Err(refusal));
     }
 }
 
 #[test]
 fn order_of_the_inputs() {
-    let plan = |list: &[u8], l, b| read_plan(list, l, b, 0, 1, &mut []);
-    assert_eq!(plan(&[0; 49_177], CHUNK + 1, 0), Err(no(7)));
-    assert_eq!(plan(&[0; 49_177], CHUNK, 0), Err(no(8)));
-    assert_eq!(plan(&[0; 49_177], CHUNK, BLOCK), Err(no(1)));
-    assert_eq!(plan(&[0xff; 49_176], CHUNK, BLOCK), Err(no(2)));
-    assert_eq!(plan(&[0xff; 24], CHUNK, BLOCK), Err(no_at(3, 0)));
-    assert_eq!(plan(&[0; 24], CHUNK, BLOCK), Err(no(12)));
+    let plan = |list: &[u8], index, l, b| read_plan(list, index, l, b, 0, 1, &mut []);
+    assert_eq!(plan(&[0; 49_177], PAST, CHUNK + 1, 0), Err(no(7)));
+    assert_eq!(plan(&[0; 49_177], PAST, CHUNK, 0), Err(no(21)));
+    assert_eq!(plan(&[0; 49_177], PAST - 1, CHUNK, 0), Err(no(8)));
+    assert_eq!(plan(&[0; 49_177], 0, CHUNK, BLOCK), Err(no(1)));
+    assert_eq!(plan(&[0xff; 49_176], 0, CHUNK, BLOCK), Err(no(2)));
+    assert_eq!(plan(&[0xff; 24], 0, CHUNK, BLOCK), Err(no_at(3, 0)));
+    assert_eq!(plan(&[0; 24], 0, CHUNK, BLOCK), Err(no(12)));
+}
+
+/// Also where the answer would be empty. The key writers have another refusal for it.
+#[test]
+fn index_past_32_bits() {
+    for index in [PAST, PAST + 1, u64::MAX] {
+        assert_eq!(read_plan(&[], index, 0, BLOCK, 0, 0, &mut []), Err(no(21)));
+        assert_eq!(compact(&[], index, BLOCK, 0, 1, &mut [], &mut []), Err(no(21)));
+        assert_eq!(compact(&[0; 23], index, 0, 9, 0, &mut [], &mut []), Err(no(21)));
+        assert_eq!(redis_key(1, index), Err(no(13)));
+        assert_eq!(tkv_key(1, index), Err(no(13)));
+    }
+    for index in [0, PAST - 1] {
+        assert_eq!(read_plan(&[], index, 0, BLOCK, 0, 0, &mut []), Ok(0));
+        let none = Compacted { plan: 0, list: 0 };
+        assert_eq!(compact(&[], index, BLOCK, 0, 1, &mut [], &mut []), Ok(none));
+    }
 }
 
 #[test]
 fn block_sizes() {
-    let plan = |b| read_plan(&[], 0, b, 0, 0, &mut []);
+    let plan = |b| read_plan(&[], 0, 0, b, 0, 0, &mut []);
     let mut allowed = 65_536;
     while allowed <= 16_777_216 {
         assert_eq!(plan(allowed), Ok(0));
@@ -157,12 +178,12 @@ fn tidied_list_has_no_uncovered_runs() {
 #[test]
 fn short_buffers_keep_their_bytes() {
     let list = list(&[(8, 7, 10, 0, 4)]);
-    let (mut plan, mut new_list) = ([0xee; 30], [0xee; 23]);
-    assert_eq!(compact(&list, BLOCK, 1, 9, &mut plan, &mut new_list), Err(no(12)));
-    assert_eq!((plan, new_list), ([0xee; 30], [0xee; 23]));
-    let (mut plan, mut new_list) = ([0xee; 29], [0xee; 24]);
-    assert_eq!(compact(&list, BLOCK, 1, 9, &mut plan, &mut new_list), Err(no(12)));
-    assert_eq!((plan, new_list), ([0xee; 29], [0xee; 24]));
+    let (mut plan, mut new_list) = ([0xee; 34], [0xee; 23]);
+    assert_eq!(compact(&list, 0, BLOCK, 1, 9, &mut plan, &mut new_list), Err(no(12)));
+    assert_eq!((plan, new_list), ([0xee; 34], [0xee; 23]));
+    let (mut plan, mut new_list) = ([0xee; 33], [0xee; 24]);
+    assert_eq!(compact(&list, 0, BLOCK, 1, 9, &mut plan, &mut new_list), Err(no(12)));
+    assert_eq!((plan, new_list), ([0xee; 33], [0xee; 24]));
 }
 
 #[test]

@@ -5,7 +5,7 @@ mod common;
 use common::random::*;
 use common::*;
 use rng::Rng;
-use second::limits::RECORD;
+use second::limits::{PIECE, RECORD};
 use second::store::Store;
 use second::{compact_bytes, source_at, tidy_bytes, Record};
 
@@ -25,7 +25,7 @@ fn old_and_new_list_read_the_same_after_copying() {
         let appended = some_list(&mut random, 3, NEW);
         let k = random.below((old.len() / RECORD) as u64 + 1);
         let before = Store::new(round);
-        let (plan, new) = compact_bytes(&old, BLOCK_SIZE, k, NEW).expect("a plan");
+        let (plan, new) = compact_bytes(&old, 5, BLOCK_SIZE, k, NEW).expect("a plan");
         let size = if plan.is_empty() { 0 } else { Record::from_bytes(&new).size };
         let after = before.copied(&plan, BLOCK_SIZE, NEW, size);
         let (with_old, with_new) = (joined(&old, &appended), joined(&new, &appended));
@@ -43,8 +43,8 @@ fn old_and_new_list_read_the_same_after_copying() {
 #[test]
 fn lost_piece_is_noticed() {
     let old = list(&[(0, 1, 10, 0, 10), (20, 2, 10, 0, 10)]);
-    let (plan, new) = compact_bytes(&old, BLOCK_SIZE, 2, NEW).expect("a plan");
-    let after = Store::new(1).copied(&plan[..30], BLOCK_SIZE, NEW, 30);
+    let (plan, new) = compact_bytes(&old, 5, BLOCK_SIZE, 2, NEW).expect("a plan");
+    let after = Store::new(1).copied(&plan[..PIECE], BLOCK_SIZE, NEW, 30);
     let differs = |p: &u64| {
         after.read(&joined(&old, &[]), BLOCK_SIZE, *p)
             != after.read(&joined(&new, &[]), BLOCK_SIZE, *p)

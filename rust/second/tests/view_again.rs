@@ -63,7 +63,7 @@ fn view_fed_back_reads_alike_and_holes_are_zeros() {
             assert_eq!(source_at(&new, p), expected, "position {p} of {l}");
             assert!(p >= l || read(&new, p) == read(&old, p), "position {p} of {l}");
         }
-        let plan = |list| read_plan_bytes(list, l, BLOCK_SIZE, 0, CHUNK).expect("a plan");
+        let plan = |list| read_plan_bytes(list, 0, l, BLOCK_SIZE, 0, CHUNK).expect("a plan");
         assert_eq!(plan(&again), plan(&list));
     }
 }

@@ -1,6 +1,7 @@
 //! What the tests share: lists from tuples, and refusals in few words.
 #![allow(dead_code)]
 
+pub mod files;
 pub mod random;
 
 use second::{Record, Refusal, Source};
