@@ -1,7 +1,7 @@
 //! The answers of `second` as the structs of the C interface.
 #![allow(non_camel_case_types)]
 
-use second::{Answer, ChunkKey, Compacted, Found, ObjectName, Record, Refusal};
+use second::{Answer, ChunkKey, Compacted, Found, ListRefusal, ObjectName, Record, Refusal};
 
 #[repr(C)]
 #[derive(Default)]
@@ -23,6 +23,15 @@ pub struct ezk_found {
     size: u64,
     off: u64,
     len: u64,
+}
+
+#[repr(C)]
+#[derive(Default)]
+pub struct ezk_file_answer {
+    refusal: u64,
+    place: u64,
+    index: u64,
+    count: u64,
 }
 
 #[repr(C)]
@@ -79,6 +88,15 @@ pub fn found(answer: Result<Option<Found>, Refusal>) -> ezk_found {
         }
         Err(Refusal { number, place }) => {
             ezk_found { refusal: number, place, ..ezk_found::default() }
+        }
+    }
+}
+
+pub fn across(answer: Result<usize, ListRefusal>) -> ezk_file_answer {
+    match answer {
+        Ok(count) => ezk_file_answer { count: count as u64, ..ezk_file_answer::default() },
+        Err(ListRefusal { refusal: Refusal { number, place }, index }) => {
+            ezk_file_answer { refusal: number, place, index, count: 0 }
         }
     }
 }

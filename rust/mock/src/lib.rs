@@ -3,9 +3,10 @@
 mod answers;
 mod lent;
 
-use answers::{answered, compacted, found, key, object, part};
-use answers::{ezk_answer, ezk_chunk_key, ezk_compacted, ezk_found, ezk_object, ezk_part};
-use lent::{bytes, room};
+use answers::{across, answered, compacted, found, key, object, part};
+use answers::{ezk_answer, ezk_chunk_key, ezk_compacted, ezk_file_answer};
+use answers::{ezk_found, ezk_object, ezk_part};
+use lent::{bytes, numbers, room};
 
 /// # Safety
 /// As the C header says: each pointer has as many bytes as its length.
@@ -57,6 +58,7 @@ pub unsafe extern "C" fn ezk_tidy(
 pub unsafe extern "C" fn ezk_read_plan(
     list: *const u8,
     list_len: usize,
+    index: u64,
     chunk_len: u64,
     block_size: u64,
     start: u64,
@@ -65,7 +67,28 @@ pub unsafe extern "C" fn ezk_read_plan(
     out_len: usize,
 ) -> ezk_answer {
     let (list, out) = (bytes(list, list_len), room(out, out_len));
-    answered(second::read_plan(list, chunk_len, block_size, start, count, out))
+    answered(second::read_plan(list, index, chunk_len, block_size, start, count, out))
+}
+
+/// # Safety
+/// As for [`ezk_check`]; `lengths` has as many numbers as its count.
+#[no_mangle]
+pub unsafe extern "C" fn ezk_file_plan(
+    lists: *const u8,
+    lists_len: usize,
+    lengths: *const u64,
+    lengths_count: usize,
+    first_index: u64,
+    file_len: u64,
+    block_size: u64,
+    start: u64,
+    count: u64,
+    out: *mut u8,
+    out_len: usize,
+) -> ezk_file_answer {
+    let (lists, lengths) = (bytes(lists, lists_len), numbers(lengths, lengths_count));
+    let file = second::File { lists, lengths, first_index, file_len };
+    across(second::file_plan(&file, block_size, start, count, room(out, out_len)))
 }
 
 /// # Safety
@@ -74,6 +97,7 @@ pub unsafe extern "C" fn ezk_read_plan(
 pub unsafe extern "C" fn ezk_compact(
     list: *const u8,
     list_len: usize,
+    index: u64,
     block_size: u64,
     k: u64,
     new_id: u64,
@@ -84,7 +108,7 @@ pub unsafe extern "C" fn ezk_compact(
 ) -> ezk_compacted {
     let list = bytes(list, list_len);
     let (plan, new_list) = (room(plan, plan_len), room(new_list, new_list_len));
-    compacted(second::compact(list, block_size, k, new_id, plan, new_list))
+    compacted(second::compact(list, index, block_size, k, new_id, plan, new_list))
 }
 
 /// # Safety
