@@ -24,6 +24,7 @@
 #![deny(unsafe_code)]
 #![warn(missing_docs)]
 
+mod files;
 mod find;
 mod history;
 mod keys;
@@ -35,6 +36,7 @@ mod refusal;
 #[allow(unsafe_code)]
 pub mod sys;
 
+pub use files::{file_plan, ListRefusal};
 pub use find::{find, Found};
 pub use history::{added, Added};
 pub use keys::{read_redis_key, read_tkv_key, write_redis_key, write_tkv_key, ChunkKey};

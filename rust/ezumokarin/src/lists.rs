@@ -81,60 +81,64 @@ pub fn tidy(list: &[u8], out: &mut [u8]) -> Result<usize, Refusal> {
 }
 
 /// Writes the plan of a read of `count` bytes from `start`, cut to the chunk length, and
-/// returns its length in bytes. Refusals: 7, 8, 1 to 6, 16, 12.
+/// returns its length in bytes. Each piece carries `index`, that of the chunk in its file;
+/// [`file_plan`](crate::file_plan()) reads across chunks. Refusals: 7, 21, 8, 1 to 6, 16, 12.
 ///
 /// ```
 /// use ezumokarin::{pieces, read_plan, Piece, Location, Record};
 /// let slice = Record { pos: 0, id: 3, size: 100_000, off: 0, len: 100_000 };
 /// let mut out = [0; 3 * Piece::LEN];
-/// let count = read_plan(&slice.to_bytes(), 100_001, 65_536, 65_000, u64::MAX, &mut out)?;
+/// let count = read_plan(&slice.to_bytes(), 7, 100_001, 65_536, 65_000, u64::MAX, &mut out)?;
 /// let plan: Vec<Piece> = pieces(&out[..count]).collect();
 /// let first = Location::Object { id: 3, block: 0, length: 65_536, at: 65_000 };
 /// let second = Location::Object { id: 3, block: 1, length: 34_464, at: 0 };
-/// assert_eq!(plan[0], Piece { place: 0, from: first, len: 536 });
-/// assert_eq!(plan[1], Piece { place: 536, from: second, len: 34_464 });
-/// assert_eq!(plan[2], Piece { place: 35_000, from: Location::Zeros, len: 1 });
+/// assert_eq!(plan[0], Piece { index: 7, place: 0, from: first, len: 536 });
+/// assert_eq!(plan[1], Piece { index: 7, place: 536, from: second, len: 34_464 });
+/// assert_eq!(plan[2], Piece { index: 7, place: 35_000, from: Location::Zeros, len: 1 });
 /// # Ok::<(), ezumokarin::Refusal>(())
 /// ```
 pub fn read_plan(
     list: &[u8],
+    index: u64,
     chunk_len: u64,
     block_size: u64,
     start: u64,
     count: u64,
     out: &mut [u8],
 ) -> Result<usize, Refusal> {
-    counted(sys::read_plan(list, chunk_len, block_size, start, count, out))
+    counted(sys::read_plan(list, index, chunk_len, block_size, start, count, out))
 }
 
 /// Writes the plan that copies the first `k` records into the new slice `new_id`, and the
-/// list that has one record in their stead. Refusals: 8, 1 to 6, 16, 10, 9, 12.
+/// list that has one record in their stead. Each piece carries `index`, that of the chunk in its
+/// file. Refusals: 21, 8, 1 to 6, 16, 10, 9, 12.
 ///
 /// Once the plan is copied out, the old list and the new one read the same bytes, also with the
 /// same records appended to both. A call takes a list with its appended records as one: a slice
 /// must have one size in all of them.
 ///
 /// ```
-/// use ezumokarin::{compact, records, Compacted, Record};
+/// use ezumokarin::{compact, records, Compacted, Piece, Record};
 /// let first = Record { pos: 0, id: 7, size: 5, off: 0, len: 5 };
 /// let second = Record { pos: 5, id: 8, size: 5, off: 0, len: 5 };
 /// let list = [first.to_bytes(), second.to_bytes()].concat();
-/// let (mut plan, mut new_list) = ([0; 60], [0; 24]);
-/// let counts = compact(&list, 65_536, 2, 9, &mut plan, &mut new_list)?;
-/// assert_eq!(counts, Compacted { plan: 60, list: 24 });
+/// let (mut plan, mut new_list) = ([0; 2 * Piece::LEN], [0; 24]);
+/// let counts = compact(&list, 7, 65_536, 2, 9, &mut plan, &mut new_list)?;
+/// assert_eq!(counts, Compacted { plan: 68, list: 24 });
 /// let copied = Record { pos: 0, id: 9, size: 10, off: 0, len: 10 };
 /// assert_eq!(records(&new_list).collect::<Vec<_>>(), [copied]);
 /// # Ok::<(), ezumokarin::Refusal>(())
 /// ```
 pub fn compact(
     list: &[u8],
+    index: u64,
     block_size: u64,
     k: u64,
     new_id: u64,
     plan: &mut [u8],
     new_list: &mut [u8],
 ) -> Result<Compacted, Refusal> {
-    let answer = sys::compact(list, block_size, k, new_id, plan, new_list);
+    let answer = sys::compact(list, index, block_size, k, new_id, plan, new_list);
     passed(answer.refusal, answer.place)?;
     Ok(Compacted { plan: answer.plan as usize, list: answer.list as usize })
 }

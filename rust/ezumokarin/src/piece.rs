@@ -1,10 +1,12 @@
-//! Pieces of a plan and their 30 bytes.
+//! Pieces of a plan and their 34 bytes.
 
 use crate::record::four;
 
-/// One piece of a read plan.
+/// One piece of a plan.
 #[derive(Clone, Copy, Debug, PartialEq, Eq, Hash)]
 pub struct Piece {
+    /// The index of the chunk in its file.
+    pub index: u32,
     /// Place from the start of the read.
     pub place: u32,
     /// Where the bytes come from.
@@ -33,20 +35,20 @@ pub enum Location {
 
 impl Piece {
     /// Bytes of a piece.
-    pub const LEN: usize = 30;
+    pub const LEN: usize = 34;
 
     fn from_bytes(bytes: &[u8]) -> Piece {
         let from = match &bytes[..2] {
             b"RZ" => Location::Zeros,
             b"RB" => Location::Object {
-                id: u64::from(four(bytes, 6)) << 32 | u64::from(four(bytes, 10)),
-                block: four(bytes, 14),
-                length: four(bytes, 18),
-                at: four(bytes, 22),
+                id: u64::from(four(bytes, 10)) << 32 | u64::from(four(bytes, 14)),
+                block: four(bytes, 18),
+                length: four(bytes, 22),
+                at: four(bytes, 26),
             },
             mark => panic!("no mark of a piece: {mark:?}"),
         };
-        Piece { place: four(bytes, 2), from, len: four(bytes, 26) }
+        Piece { index: four(bytes, 2), place: four(bytes, 6), from, len: four(bytes, 30) }
     }
 }
 

@@ -1,11 +1,12 @@
-//! The fourteen refusals.
+//! The fifteen refusals.
 
 use std::error::Error;
 use std::fmt;
 
 /// Why a call gave no answer. Where several fit, the library gives the first in this order:
-/// 7, 8, 1, 2, then the first bad record and in it 3, 4, 5, 6; then 16, 10, 9, 13, 11, 12.
-/// [`added`](crate::added()) goes through it once for the older list, and only then for the newer.
+/// 7, 21, 8, 1, 2, then the first bad record and in it 3, 4, 5, 6; then 16, 10, 9, 13, 11, 12.
+/// [`added`](crate::added()) goes through it once for the older list, and only then for the newer;
+/// [`file_plan`](crate::file_plan()) goes through a list's own refusals list by list.
 ///
 /// `place` is the place of the record in its list, counted from 0.
 ///
@@ -59,10 +60,12 @@ pub enum Refusal {
         /// The record.
         place: u64,
     },
+    /// 21: another number of lists than 1 to 16, lengths that don't add up to the bytes lent, or an index past 32 bits
+    ChunkLists,
 }
 
 impl Refusal {
-    /// The number that the library gives this refusal, 1 to 13 or 16.
+    /// The number that the library gives this refusal, 1 to 13, 16 or 21.
     pub fn number(&self) -> u64 {
         match self {
             Refusal::ListLength => 1,
@@ -79,6 +82,7 @@ impl Refusal {
             Refusal::Buffer => 12,
             Refusal::Form => 13,
             Refusal::TwoSizes { .. } => 16,
+            Refusal::ChunkLists => 21,
         }
     }
 
@@ -92,6 +96,11 @@ impl Refusal {
             | Refusal::TwoSizes { place } => Some(place),
             _ => None,
         }
+    }
+
+    /// Whether it is of a list alone, whatever else a call is given.
+    pub(crate) fn is_of_list(&self) -> bool {
+        matches!(self, Refusal::ListLength | Refusal::ListRecords) || self.place().is_some()
     }
 
     fn sentence(&self) -> &'static str {
@@ -116,6 +125,9 @@ impl Refusal {
                 "a name or key not of its form, or numbers to be written that the form doesn't allow"
             }
             Refusal::TwoSizes { .. } => "an earlier record has this id, not 0, and another size",
+            Refusal::ChunkLists => {
+                "another number of lists than 1 to 16, lengths that don't add up to the bytes lent, or an index past 32 bits"
+            }
         }
     }
 }
@@ -138,6 +150,7 @@ pub(crate) fn passed(number: u64, place: u64) -> Result<(), Refusal> {
         12 => Refusal::Buffer,
         13 => Refusal::Form,
         16 => Refusal::TwoSizes { place },
+        21 => Refusal::ChunkLists,
         // Only a library that doesn't belong to this crate can say more.
         _ => panic!("the library refused with number {number}, unknown to this crate"),
     })

@@ -41,6 +41,20 @@ pub struct ezk_found {
     pub len: u64,
 }
 
+/// What `ezk_file_plan` returns.
+#[repr(C)]
+#[derive(Clone, Copy, Debug, Default, PartialEq, Eq)]
+pub struct ezk_file_answer {
+    /// 0, or the number of the refusal.
+    pub refusal: u64,
+    /// The place of the refused record in its list, for refusals 3 to 6 and 16.
+    pub place: u64,
+    /// The chunk index of the refused list; 0 where no list is at fault.
+    pub index: u64,
+    /// Bytes written.
+    pub count: u64,
+}
+
 /// What compaction returns.
 #[repr(C)]
 #[derive(Clone, Copy, Debug, Default, PartialEq, Eq)]
@@ -125,6 +139,7 @@ macro_rules! fields {
 
 fields!(ezk_answer: refusal, place, count);
 fields!(ezk_found: refusal, place, found, segment, pos, id, size, off, len);
+fields!(ezk_file_answer: refusal, place, index, count);
 fields!(ezk_compacted: refusal, place, plan, list);
 fields!(ezk_part: refusal, place, rewritten, offset, length);
 fields!(ezk_object: refusal, place, id, block, length, volume);
@@ -145,6 +160,7 @@ extern "C" {
     pub fn ezk_read_plan(
         list: *const u8,
         list_len: usize,
+        index: u64,
         chunk_len: u64,
         block_size: u64,
         start: u64,
@@ -152,9 +168,23 @@ extern "C" {
         out: *mut u8,
         out_len: usize,
     ) -> ezk_answer;
+    pub fn ezk_file_plan(
+        lists: *const u8,
+        lists_len: usize,
+        lengths: *const u64,
+        lengths_count: usize,
+        first_index: u64,
+        file_len: u64,
+        block_size: u64,
+        start: u64,
+        count: u64,
+        out: *mut u8,
+        out_len: usize,
+    ) -> ezk_file_answer;
     pub fn ezk_compact(
         list: *const u8,
         list_len: usize,
+        index: u64,
         block_size: u64,
         k: u64,
         new_id: u64,
@@ -216,6 +246,7 @@ pub fn tidy(list: &[u8], out: &mut [u8]) -> ezk_answer {
 /// `ezk_read_plan`
 pub fn read_plan(
     list: &[u8],
+    index: u64,
     chunk_len: u64,
     block_size: u64,
     start: u64,
@@ -224,12 +255,44 @@ pub fn read_plan(
 ) -> ezk_answer {
     let (list, list_len) = (list.as_ptr(), list.len());
     let (out, out_len) = (out.as_mut_ptr(), out.len());
-    unsafe { ezk_read_plan(list, list_len, chunk_len, block_size, start, count, out, out_len) }
+    unsafe {
+        ezk_read_plan(list, list_len, index, chunk_len, block_size, start, count, out, out_len)
+    }
+}
+
+/// `ezk_file_plan`
+#[allow(clippy::too_many_arguments)] // these are the call's own inputs
+pub fn file_plan(
+    lists: &[u8],
+    lengths: &[u64],
+    first_index: u64,
+    file_len: u64,
+    block_size: u64,
+    start: u64,
+    count: u64,
+    out: &mut [u8],
+) -> ezk_file_answer {
+    unsafe {
+        ezk_file_plan(
+            lists.as_ptr(),
+            lists.len(),
+            lengths.as_ptr(),
+            lengths.len(),
+            first_index,
+            file_len,
+            block_size,
+            start,
+            count,
+            out.as_mut_ptr(),
+            out.len(),
+        )
+    }
 }
 
 /// `ezk_compact`
 pub fn compact(
     list: &[u8],
+    index: u64,
     block_size: u64,
     k: u64,
     new_id: u64,
@@ -239,7 +302,9 @@ pub fn compact(
     let (list, list_len) = (list.as_ptr(), list.len());
     let (plan, plan_len) = (plan.as_mut_ptr(), plan.len());
     let (new, new_len) = (new_list.as_mut_ptr(), new_list.len());
-    unsafe { ezk_compact(list, list_len, block_size, k, new_id, plan, plan_len, new, new_len) }
+    unsafe {
+        ezk_compact(list, list_len, index, block_size, k, new_id, plan, plan_len, new, new_len)
+    }
 }
 
 /// `ezk_added`

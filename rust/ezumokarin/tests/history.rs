@@ -59,7 +59,7 @@ fn rewritten_lists() {
 fn compacted_list_is_rewritten() {
     let older = list(&[A, B, C]);
     let (mut plan, mut new_list) = ([0; 5 * Piece::LEN], [0; 3 * Record::LEN]);
-    let counts = compact(&older, 65_536, 2, 9, &mut plan, &mut new_list).expect("a plan");
+    let counts = compact(&older, 0, 65_536, 2, 9, &mut plan, &mut new_list).expect("a plan");
     rewritten(&older, &new_list[..counts.list]);
 }
 

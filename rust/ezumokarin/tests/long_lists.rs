@@ -57,12 +57,12 @@ fn every_call_on_2048_records() {
     assert_eq!(out[..4_097 * Record::LEN], runs);
     assert_eq!(tidy(&list, &mut out), Ok(49_152));
     assert_eq!(out[..49_152], list);
-    assert_eq!(read_plan(&list, CHUNK, BLOCK, 0, CHUNK, &mut out), Ok(4_097 * Piece::LEN));
+    assert_eq!(read_plan(&list, 7, CHUNK, BLOCK, 0, CHUNK, &mut out), Ok(4_097 * Piece::LEN));
     // From the first to the last covered position: a piece less at each end.
     let all = Compacted { plan: 4_095 * Piece::LEN, list: Record::LEN };
-    assert_eq!(compact(&list, BLOCK, 2_048, 1, &mut out, &mut new_list), Ok(all));
+    assert_eq!(compact(&list, 7, BLOCK, 2_048, 1, &mut out, &mut new_list), Ok(all));
     let none = Compacted { plan: 0, list: 49_152 };
-    assert_eq!(compact(&list, BLOCK, 0, 1, &mut out, &mut new_list), Ok(none));
+    assert_eq!(compact(&list, 7, BLOCK, 0, 1, &mut out, &mut new_list), Ok(none));
     assert_eq!(new_list, list);
     let last = Added::Records(&list[49_128..]);
     assert_eq!(added(&list[..49_128], &list), Ok(last));
@@ -77,8 +77,8 @@ fn no_call_on_2049_records() {
     assert_eq!(check(&list), refused);
     assert_eq!(view(&list, CHUNK, &mut out), refused);
     assert_eq!(tidy(&list, &mut out), refused);
-    assert_eq!(read_plan(&list, CHUNK, BLOCK, 0, CHUNK, &mut out), refused);
-    let compacted = compact(&list, BLOCK, 2_049, 1, &mut out, &mut new_list);
+    assert_eq!(read_plan(&list, 7, CHUNK, BLOCK, 0, CHUNK, &mut out), refused);
+    let compacted = compact(&list, 7, BLOCK, 2_049, 1, &mut out, &mut new_list);
     assert_eq!(compacted, Err(Refusal::ListRecords));
     assert_eq!(added(&list, &[]), Err(Refusal::ListRecords));
     assert_eq!(added(&[], &list), Err(Refusal::ListRecords));

@@ -21,14 +21,14 @@ fn view_of_000() {
 
 #[test]
 fn read_of_two_pieces() {
-    let mut out = [0; 60];
-    let count = read_plan(&list_of_000(), CHUNK, 4_194_304, 15_728_640, 2_097_152, &mut out);
-    assert_eq!(count, Ok(60));
+    let mut out = [0; 68];
+    let count = read_plan(&list_of_000(), 3, CHUNK, 4_194_304, 15_728_640, 2_097_152, &mut out);
+    assert_eq!(count, Ok(68));
     let first = Location::Object { id: 10, block: 1, length: 4_194_304, at: 1_048_576 };
     let second = Location::Object { id: 12, block: 0, length: 4_194_304, at: 0 };
     let plan = [
-        Piece { place: 0, from: first, len: 1_048_576 },
-        Piece { place: 1_048_576, from: second, len: 1_048_576 },
+        Piece { index: 3, place: 0, from: first, len: 1_048_576 },
+        Piece { index: 3, place: 1_048_576, from: second, len: 1_048_576 },
     ];
     assert_eq!(pieces(&out).collect::<Vec<_>>(), plan);
 }

@@ -11,7 +11,7 @@ fn second_refused(bad: Record, refusal: Refusal, number: u64) {
     let refused = check(&list).expect_err("a refusal");
     assert_eq!(refused, refusal);
     assert_eq!((refused.number(), refused.place()), (number, Some(1)));
-    assert_eq!(compact(&list, 65_536, 1, 9, &mut [], &mut []), Err(refusal));
+    assert_eq!(compact(&list, 0, 65_536, 1, 9, &mut [], &mut []), Err(refusal));
 }
 
 #[test]

@@ -57,9 +57,9 @@ fn order() {
     assert_eq!(view(&list, CHUNK + 1, &mut out), Err(Refusal::ChunkLength));
     assert_eq!(view(&list, 9, &mut out), Err(refused));
     assert_eq!(tidy(&list, &mut out), Err(refused));
-    assert_eq!(read_plan(&list, 9, 0, 0, 9, &mut out), Err(Refusal::BlockSize));
-    assert_eq!(read_plan(&list, 9, 65_536, 0, 9, &mut out), Err(refused));
-    assert_eq!(compact(&list, 65_536, 3, 7, &mut out, &mut []), Err(refused));
+    assert_eq!(read_plan(&list, 0, 9, 0, 0, 9, &mut out), Err(Refusal::BlockSize));
+    assert_eq!(read_plan(&list, 0, 9, 65_536, 0, 9, &mut out), Err(refused));
+    assert_eq!(compact(&list, 0, 65_536, 3, 7, &mut out, &mut []), Err(refused));
     assert_eq!(out, [0xee; 20]);
 }
 

@@ -47,11 +47,11 @@ fn zeros_with_a_size_are_zeros() {
     assert_eq!(rows(&viewed(&sized, 20)), runs);
     assert_eq!(rows(&tidied(&sized)), runs);
     let mut plan = [0; 3 * Piece::LEN];
-    assert_eq!(read_plan(&sized, 20, BLOCK, 0, 20, &mut plan), Ok(plan.len()));
-    assert_eq!(lines(&plan), "RB 0 7 0 20 0 4\nRZ 4 0 0 0 0 8\nRB 12 7 0 20 12 8\n");
+    assert_eq!(read_plan(&sized, 0, 20, BLOCK, 0, 20, &mut plan), Ok(plan.len()));
+    assert_eq!(lines(&plan), "RB 0 0 7 0 20 0 4\nRZ 0 4 0 0 0 0 8\nRB 0 12 7 0 20 12 8\n");
     let (mut plan, mut new_list) = ([0; Piece::LEN], [0; 2 * Record::LEN]);
     let counts = Compacted { plan: plan.len(), list: new_list.len() };
-    assert_eq!(compact(&sized, BLOCK, 1, 9, &mut plan, &mut new_list), Ok(counts));
+    assert_eq!(compact(&sized, 0, BLOCK, 1, 9, &mut plan, &mut new_list), Ok(counts));
     assert_eq!(rows(&new_list), [(0, 9, 20, 0, 20), (4, 0, 8, 0, 8)]);
 }
 
@@ -85,7 +85,7 @@ fn view_has_the_plan_of_its_list() {
     let again = viewed(&list, 2_000);
     let plan = |list: &[u8], chunk_len| {
         let mut out = vec![0; 2_001 * Piece::LEN];
-        let count = read_plan(list, chunk_len, BLOCK, 3, CHUNK, &mut out).expect("a plan");
+        let count = read_plan(list, 0, chunk_len, BLOCK, 3, CHUNK, &mut out).expect("a plan");
         out.truncate(count);
         out
     };

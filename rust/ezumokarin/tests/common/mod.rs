@@ -29,17 +29,17 @@ pub fn apart(bytes: u32) -> Vec<Row> {
     (0..bytes).map(|i| (2 * i + 1, 7 + u64::from(i), 1, 0, 1)).collect()
 }
 
-/// The pieces of a plan, a line each, with their fields in the order of their bytes: mark, place,
-/// id, block, block length, place in block, length.
+/// The pieces of a plan, a line each, with their fields in the order of their bytes: mark, chunk
+/// index, place, id, block, block length, place in block, length.
 pub fn lines(plan: &[u8]) -> String {
     pieces(plan).map(line).collect()
 }
 
-fn line(Piece { place, from, len }: Piece) -> String {
+fn line(Piece { index, place, from, len }: Piece) -> String {
     match from {
-        Location::Zeros => format!("RZ {place} 0 0 0 0 {len}\n"),
+        Location::Zeros => format!("RZ {index} {place} 0 0 0 0 {len}\n"),
         Location::Object { id, block, length, at } => {
-            format!("RB {place} {id} {block} {length} {at} {len}\n")
+            format!("RB {index} {place} {id} {block} {length} {at} {len}\n")
         }
     }
 }
