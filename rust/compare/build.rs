@@ -1,7 +1,7 @@
 //! Compiles header.c against the project's C header, or against the one in the folder
 //! EZUMOKARIN_INCLUDE (an absolute path), so that a changed header can be tried.
-//! EZUMOKARIN_SPOIL_VIEW and EZUMOKARIN_SPOIL_PART hold C that header.c runs on every answer of
-//! their calls, so that the comparison can be tried.
+//! EZUMOKARIN_SPOIL_VIEW, EZUMOKARIN_SPOIL_FILE and EZUMOKARIN_SPOIL_PART hold C that header.c runs
+//! on every answer of their calls, so that the comparison can be tried.
 
 use std::env;
 use std::path::PathBuf;
@@ -22,7 +22,7 @@ fn main() {
     run(Command::new("gcc")
         .args(["-std=c11", "-O2", "-Wall", "-Wextra", "-Wconversion", "-Werror", "-c", "-I"])
         .arg(&include)
-        .args(["VIEW", "PART"].map(spoiling))
+        .args(["VIEW", "FILE", "PART"].map(spoiling))
         .arg(&source)
         .arg("-o")
         .arg(&object));

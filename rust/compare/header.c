@@ -10,9 +10,12 @@
 #include "ezumokarin.h"
 
 /*
- * What is done to a view and its answer `a` before they are compared: nothing, or what build.rs is
+ * What is done to an answer `a` and its bytes before they are compared: nothing, or what build.rs is
  * told, so that tools/check-header can see that the comparison finds a spoiled answer.
  */
+#ifndef SPOIL_FILE
+#define SPOIL_FILE
+#endif
 #ifndef SPOIL_PART
 #define SPOIL_PART
 #endif
@@ -41,6 +44,12 @@ FIELD(ezk_found, size, 6);
 FIELD(ezk_found, off, 7);
 FIELD(ezk_found, len, 8);
 FIELDS(ezk_found, 9);
+
+FIELD(ezk_file_answer, refusal, 0);
+FIELD(ezk_file_answer, place, 1);
+FIELD(ezk_file_answer, index, 2);
+FIELD(ezk_file_answer, count, 3);
+FIELDS(ezk_file_answer, 4);
 
 FIELD(ezk_compacted, refusal, 0);
 FIELD(ezk_compacted, place, 1);
@@ -90,6 +99,7 @@ static const struct {
     NAMED(EZK_BUFFER),
     NAMED(EZK_FORM),
     NAMED(EZK_TWO_SIZES),
+    NAMED(EZK_CHUNK_LISTS),
     NAMED(EZK_CHUNK),
     NAMED(EZK_RECORD),
     NAMED(EZK_PIECE),
@@ -123,6 +133,14 @@ static void found(ezk_found a, uint64_t *to)
     to[6] = a.size;
     to[7] = a.off;
     to[8] = a.len;
+}
+
+static void file_answer(ezk_file_answer a, uint64_t *to)
+{
+    to[0] = a.refusal;
+    to[1] = a.place;
+    to[2] = a.index;
+    to[3] = a.count;
 }
 
 static void compacted(ezk_compacted a, uint64_t *to)
@@ -184,18 +202,32 @@ void via_tidy(const uint8_t *list, size_t list_len, uint8_t *out, size_t out_len
     answer(ezk_tidy(list, list_len, out, out_len), to);
 }
 
-void via_read_plan(const uint8_t *list, size_t list_len, uint64_t chunk_len, uint64_t block_size,
-                   uint64_t start, uint64_t count, uint8_t *out, size_t out_len, uint64_t *to)
+void via_read_plan(const uint8_t *list, size_t list_len, uint64_t index, uint64_t chunk_len,
+                   uint64_t block_size, uint64_t start, uint64_t count, uint8_t *out,
+                   size_t out_len, uint64_t *to)
 {
-    answer(ezk_read_plan(list, list_len, chunk_len, block_size, start, count, out, out_len), to);
+    answer(ezk_read_plan(list, list_len, index, chunk_len, block_size, start, count, out,
+                         out_len),
+           to);
 }
 
-void via_compact(const uint8_t *list, size_t list_len, uint64_t block_size, uint64_t k,
-                 uint64_t new_id, uint8_t *plan, size_t plan_len, uint8_t *new_list,
+void via_file_plan(const uint8_t *lists, size_t lists_len, const uint64_t *lengths,
+                   size_t lengths_count, uint64_t first_index, uint64_t file_len,
+                   uint64_t block_size, uint64_t start, uint64_t count, uint8_t *out,
+                   size_t out_len, uint64_t *to)
+{
+    ezk_file_answer a = ezk_file_plan(lists, lists_len, lengths, lengths_count, first_index,
+                                      file_len, block_size, start, count, out, out_len);
+    SPOIL_FILE
+    file_answer(a, to);
+}
+
+void via_compact(const uint8_t *list, size_t list_len, uint64_t index, uint64_t block_size,
+                 uint64_t k, uint64_t new_id, uint8_t *plan, size_t plan_len, uint8_t *new_list,
                  size_t new_list_len, uint64_t *to)
 {
-    compacted(ezk_compact(list, list_len, block_size, k, new_id, plan, plan_len, new_list,
-                          new_list_len),
+    compacted(ezk_compact(list, list_len, index, block_size, k, new_id, plan, plan_len,
+                          new_list, new_list_len),
               to);
 }
 

@@ -1,7 +1,7 @@
 //! The two ways into the archive: through the Rust crate's declarations, and through C that
 //! was compiled from the header. Every call is made both ways.
 
-use ezumokarin::sys::{self, ezk_answer, ezk_chunk_key, ezk_compacted};
+use ezumokarin::sys::{self, ezk_answer, ezk_chunk_key, ezk_compacted, ezk_file_answer};
 use ezumokarin::sys::{ezk_found, ezk_object, ezk_part};
 
 use crate::header;
@@ -14,8 +14,9 @@ pub struct Binding {
     pub view: fn(&[u8], u64, &mut [u8]) -> ezk_answer,
     pub find: fn(&[u8], u64, u64) -> ezk_found,
     pub tidy: fn(&[u8], &mut [u8]) -> ezk_answer,
-    pub read_plan: fn(&[u8], u64, u64, u64, u64, &mut [u8]) -> ezk_answer,
-    pub compact: fn(&[u8], u64, u64, u64, &mut [u8], &mut [u8]) -> ezk_compacted,
+    pub read_plan: fn(&[u8], u64, u64, u64, u64, u64, &mut [u8]) -> ezk_answer,
+    pub file_plan: fn(&[u8], &[u64], u64, u64, u64, u64, u64, &mut [u8]) -> ezk_file_answer,
+    pub compact: fn(&[u8], u64, u64, u64, u64, &mut [u8], &mut [u8]) -> ezk_compacted,
     pub added: fn(&[u8], &[u8]) -> ezk_part,
     pub write_object_name: fn(u64, u64, u64, &mut [u8]) -> ezk_answer,
     pub write_full_name: fn(&[u8], u64, u64, u64, &mut [u8]) -> ezk_answer,
@@ -34,6 +35,7 @@ const RUST: Binding = Binding {
     find: sys::find,
     tidy: sys::tidy,
     read_plan: sys::read_plan,
+    file_plan: sys::file_plan,
     compact: sys::compact,
     added: sys::added,
     write_object_name: sys::write_object_name,

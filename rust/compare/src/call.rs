@@ -1,5 +1,6 @@
 //! A call as data: what goes in, and how much room is lent.
 
+use crate::joined::Joined;
 use crate::pair::Pair;
 
 /// The room of a lent buffer, told by the length of the answer.
@@ -26,21 +27,86 @@ impl Room {
 
 #[derive(Clone, Debug)]
 pub enum Call {
-    Check { list: Vec<u8> },
-    View { list: Vec<u8>, chunk_len: u64, out: Room },
-    Find { view: Vec<u8>, segments: u64, position: u64 },
-    Tidy { list: Vec<u8>, out: Room },
-    ReadPlan { list: Vec<u8>, chunk_len: u64, block_size: u64, start: u64, count: u64, out: Room },
-    Compact { list: Vec<u8>, block_size: u64, k: u64, new_id: u64, plan: Room, new_list: Room },
-    Added { pair: Pair },
-    WriteObjectName { id: u64, block: u64, length: u64, out: Room },
-    WriteFullName { volume: Vec<u8>, id: u64, block: u64, length: u64, out: Room },
-    ReadObjectName { name: Vec<u8> },
-    ReadFullName { name: Vec<u8> },
-    WriteRedisKey { inode: u64, index: u64, out: Room },
-    WriteTkvKey { inode: u64, index: u64, out: Room },
-    ReadRedisKey { key: Vec<u8> },
-    ReadTkvKey { key: Vec<u8> },
+    Check {
+        list: Vec<u8>,
+    },
+    View {
+        list: Vec<u8>,
+        chunk_len: u64,
+        out: Room,
+    },
+    Find {
+        view: Vec<u8>,
+        segments: u64,
+        position: u64,
+    },
+    Tidy {
+        list: Vec<u8>,
+        out: Room,
+    },
+    ReadPlan {
+        list: Vec<u8>,
+        index: u64,
+        chunk_len: u64,
+        block_size: u64,
+        start: u64,
+        count: u64,
+        out: Room,
+    },
+    FilePlan {
+        file: Joined,
+        block_size: u64,
+        start: u64,
+        count: u64,
+        out: Room,
+    },
+    Compact {
+        list: Vec<u8>,
+        index: u64,
+        block_size: u64,
+        k: u64,
+        new_id: u64,
+        plan: Room,
+        new_list: Room,
+    },
+    Added {
+        pair: Pair,
+    },
+    WriteObjectName {
+        id: u64,
+        block: u64,
+        length: u64,
+        out: Room,
+    },
+    WriteFullName {
+        volume: Vec<u8>,
+        id: u64,
+        block: u64,
+        length: u64,
+        out: Room,
+    },
+    ReadObjectName {
+        name: Vec<u8>,
+    },
+    ReadFullName {
+        name: Vec<u8>,
+    },
+    WriteRedisKey {
+        inode: u64,
+        index: u64,
+        out: Room,
+    },
+    WriteTkvKey {
+        inode: u64,
+        index: u64,
+        out: Room,
+    },
+    ReadRedisKey {
+        key: Vec<u8>,
+    },
+    ReadTkvKey {
+        key: Vec<u8>,
+    },
 }
 
 impl Call {
@@ -63,6 +129,7 @@ impl Call {
             Call::Find { .. } => "find",
             Call::Tidy { .. } => "tidy",
             Call::ReadPlan { .. } => "read_plan",
+            Call::FilePlan { .. } => "file_plan",
             Call::Compact { .. } => "compact",
             Call::Added { .. } => "added",
             Call::WriteObjectName { .. } => "write_object_name",

@@ -1,6 +1,7 @@
 //! The calls that the papers speak of, and limits from both sides. Their values are tested
 //! in the second program.
 
+mod files;
 mod history;
 mod seeking;
 
@@ -8,6 +9,7 @@ use second::limits::{CHUNK, LIST_RECORDS, RECORD};
 use second::Record;
 
 use crate::call::{Call, Room};
+use crate::joined::Joined;
 use crate::lists::combed;
 use crate::pair::Pair;
 
@@ -24,6 +26,7 @@ pub fn all() -> Vec<Call> {
         fed_back(),
         seeking::all(),
         history::all(),
+        files::all(),
         names(),
         keys(),
     ]
@@ -42,11 +45,17 @@ fn with(list: Vec<u8>) -> Vec<Call> {
         Call::Check { list: list.clone() },
         Call::View { list: list.clone(), chunk_len, out },
         Call::Tidy { list: list.clone(), out },
-        Call::ReadPlan { list: list.clone(), chunk_len, block_size, start, count, out },
+        Call::ReadPlan { list: list.clone(), index: 7, chunk_len, block_size, start, count, out },
+        Call::FilePlan { file: three_with(&list), block_size, start, count: u64::MAX, out },
         Call::Added { pair: Pair::apart(&list, &[]) },
         Call::Added { pair: Pair::apart(&[], &list) },
-        Call::Compact { list, block_size, k: 1, new_id: 1_000, plan: out, new_list: out },
+        Call::Compact { list, index: 7, block_size, k: 1, new_id: 1_000, plan: out, new_list: out },
     ]
+}
+
+/// A file with this list between two others.
+fn three_with(list: &[u8]) -> Joined {
+    Joined::of(&[three(), list.to_vec(), Vec::new()], 7, u64::MAX)
 }
 
 fn lists() -> Vec<Call> {
@@ -118,6 +127,7 @@ fn list_of_000() -> Vec<Call> {
     for (start, count) in [(15_728_640, 2_097_152), (10 * MIB, 8 * MIB)] {
         calls.push(Call::ReadPlan {
             list: three(),
+            index: 0,
             chunk_len: CHUNK,
             block_size: BLOCK,
             start,

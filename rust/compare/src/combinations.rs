@@ -2,18 +2,19 @@
 //! The refusal expected is the first of the set in the written order.
 
 mod faulty;
+mod files;
 mod forms;
 mod history;
 mod seeking;
 
-use second::limits::{CHUNK, RECORD};
+use second::limits::{CHUNK, INDEX_MAX, RECORD};
 
 use crate::call::{Call, Room};
 use crate::tally::Tally;
 use faulty::{faulty_list, FIRST_ID};
 
 /// The written order; 3 to 6 stand for the first bad record.
-const ORDER: [u64; 14] = [7, 8, 1, 2, 3, 4, 5, 6, 16, 10, 9, 13, 11, 12];
+const ORDER: [u64; 15] = [7, 21, 8, 1, 2, 3, 4, 5, 6, 16, 10, 9, 13, 11, 12];
 const BLOCK_SIZE: u64 = 65_536;
 const NEW_ID: u64 = 99;
 
@@ -24,6 +25,11 @@ pub struct Faults(u64);
 impl Faults {
     pub fn has(self, number: u64) -> bool {
         self.0 >> number & 1 == 1
+    }
+
+    /// This one and no other.
+    pub fn only(number: u64) -> Faults {
+        Faults(1 << number)
     }
 
     /// More than one.
@@ -56,6 +62,8 @@ pub fn run(tally: &mut Tally) {
         view(tally, variant);
         tidy(tally, variant);
         read_plan(tally, variant);
+        files::file_plan(tally, variant);
+        files::two_bad_lists(tally, variant);
         compact(tally, variant);
         history::added(tally, variant);
     }
@@ -105,20 +113,22 @@ fn tidy(tally: &mut Tally, variant: usize) {
 }
 
 fn read_plan(tally: &mut Tally, variant: usize) {
-    for faults in sets(&[7, 8, 1, 2, 3, 4, 5, 6, 16, 12]) {
+    for faults in sets(&[7, 21, 8, 1, 2, 3, 4, 5, 6, 16, 12]) {
         let (list, bad) = faulty_list(faults, variant);
+        let index = index(faults, variant);
         let chunk_len = chunk_len(faults, variant);
         let block_size = block_size(faults, variant);
         let out = room(faults.has(12));
         let (start, count) = (0, u64::MAX);
-        let call = Call::ReadPlan { list, chunk_len, block_size, start, count, out };
+        let call = Call::ReadPlan { list, index, chunk_len, block_size, start, count, out };
         expect(tally, &call, faults.first(bad));
     }
 }
 
 fn compact(tally: &mut Tally, variant: usize) {
-    for faults in sets(&[8, 1, 2, 3, 4, 5, 6, 16, 10, 9, 12]) {
+    for faults in sets(&[21, 8, 1, 2, 3, 4, 5, 6, 16, 10, 9, 12]) {
         let (list, bad) = faulty_list(faults, variant);
+        let index = index(faults, variant);
         let records = (list.len() / RECORD) as u64;
         let k = if faults.has(10) { [records + 1, u64::MAX][variant % 2] } else { 2 };
         let new_id = if faults.has(9) { [0, FIRST_ID][variant % 2] } else { NEW_ID };
@@ -126,7 +136,7 @@ fn compact(tally: &mut Tally, variant: usize) {
         // Either buffer may be the short one, or both.
         let plan = room(faults.has(12) && variant != 1);
         let new_list = room(faults.has(12) && variant != 2);
-        let call = Call::Compact { list, block_size, k, new_id, plan, new_list };
+        let call = Call::Compact { list, index, block_size, k, new_id, plan, new_list };
         expect(tally, &call, faults.first(bad));
     }
 }
@@ -136,6 +146,13 @@ fn chunk_len(faults: Faults, variant: usize) -> u64 {
         return [CHUNK + 1, u64::MAX, 1 << 32][variant % 3];
     }
     [CHUNK, 100, 1][variant % 3]
+}
+
+fn index(faults: Faults, variant: usize) -> u64 {
+    if faults.has(21) {
+        return [INDEX_MAX + 1, u64::MAX, (1 << 32) + 7][variant % 3];
+    }
+    [INDEX_MAX, 0, 7][variant % 3]
 }
 
 fn block_size(faults: Faults, variant: usize) -> u64 {

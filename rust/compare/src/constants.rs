@@ -3,7 +3,7 @@
 
 use std::ffi::{c_char, CStr};
 
-use second::limits::{CHUNK, LIST_RECORDS, PIECE, RECORD, TIDIED_RECORDS, TKV_KEY};
+use second::limits::{CHUNK, INDEX_MAX, LIST_RECORDS, PIECE, RECORD, TIDIED_RECORDS, TKV_KEY};
 use second::{Record, Refusal};
 
 use crate::lists::combed;
@@ -78,11 +78,12 @@ fn two_sizes() -> Vec<u8> {
 fn of_calls() -> Vec<(&'static str, u64)> {
     vec![
         ("EZK_CHUNK_LENGTH", number(second::view_bytes(&[], CHUNK + 1))),
-        ("EZK_BLOCK_SIZE", number(second::read_plan_bytes(&[], 0, BLOCK + 1, 0, 0))),
-        ("EZK_NEW_ID", number(second::compact_bytes(&[], BLOCK, 0, 0))),
-        ("EZK_FIRST_RECORDS", number(second::compact_bytes(&[], BLOCK, 1, 1))),
+        ("EZK_BLOCK_SIZE", number(second::read_plan_bytes(&[], 0, 0, BLOCK + 1, 0, 0))),
+        ("EZK_NEW_ID", number(second::compact_bytes(&[], 0, BLOCK, 0, 0))),
+        ("EZK_FIRST_RECORDS", number(second::compact_bytes(&[], 0, BLOCK, 1, 1))),
         ("EZK_TIDIED_RECORDS", number(second::tidy_bytes(&comb()))),
         ("EZK_BUFFER", number(second::view(&[], 1, &mut []))),
+        ("EZK_CHUNK_LISTS", number(second::read_plan_bytes(&[], INDEX_MAX + 1, 0, BLOCK, 0, 0))),
         ("EZK_FORM", number(second::read_redis_key(&[]))),
     ]
 }

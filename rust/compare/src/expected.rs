@@ -1,9 +1,9 @@
 //! Answers of the second program as the C interface gives them, each with its refusal's
 //! number in front, 0 for none.
 
-use ezumokarin::sys::{ezk_answer, ezk_chunk_key, ezk_compacted};
+use ezumokarin::sys::{ezk_answer, ezk_chunk_key, ezk_compacted, ezk_file_answer};
 use ezumokarin::sys::{ezk_found, ezk_object, ezk_part};
-use second::{Answer, ChunkKey, Compacted, Found, ObjectName, Record, Refusal};
+use second::{Answer, ChunkKey, Compacted, Found, ListRefusal, ObjectName, Record, Refusal};
 
 pub fn answered(answer: Answer) -> (u64, ezk_answer) {
     match answer {
@@ -23,6 +23,15 @@ pub fn found(answer: Result<Option<Found>, Refusal>) -> (u64, ezk_found) {
         }
         Err(Refusal { number, place }) => {
             (number, ezk_found { refusal: number, place, ..Default::default() })
+        }
+    }
+}
+
+pub fn across(answer: Result<usize, ListRefusal>) -> (u64, ezk_file_answer) {
+    match answer {
+        Ok(count) => (0, ezk_file_answer { count: count as u64, ..Default::default() }),
+        Err(ListRefusal { refusal: Refusal { number, place }, index }) => {
+            (number, ezk_file_answer { refusal: number, place, index, ..Default::default() })
         }
     }
 }

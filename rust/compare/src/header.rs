@@ -1,7 +1,7 @@
 //! Every call through C that was compiled from `include/ezumokarin.h` (`header.c`), which
 //! hands the fields over in a row of numbers.
 
-use ezumokarin::sys::{ezk_answer, ezk_chunk_key, ezk_compacted};
+use ezumokarin::sys::{ezk_answer, ezk_chunk_key, ezk_compacted, ezk_file_answer};
 use ezumokarin::sys::{ezk_found, ezk_object, ezk_part};
 
 use crate::binding::Binding;
@@ -13,6 +13,7 @@ pub const BINDING: Binding = Binding {
     find,
     tidy,
     read_plan,
+    file_plan,
     compact,
     added,
     write_object_name,
@@ -26,6 +27,7 @@ pub const BINDING: Binding = Binding {
 };
 
 type In = *const u8;
+type Numbers = *const u64;
 type Out = *mut u8;
 type To = *mut u64;
 
@@ -37,7 +39,22 @@ extern "C" {
     fn via_read_plan(
         list: In,
         len: usize,
+        index: u64,
         chunk_len: u64,
+        block_size: u64,
+        start: u64,
+        count: u64,
+        out: Out,
+        out_len: usize,
+        to: To,
+    );
+    fn via_file_plan(
+        lists: In,
+        lists_len: usize,
+        lengths: Numbers,
+        lengths_count: usize,
+        first_index: u64,
+        file_len: u64,
         block_size: u64,
         start: u64,
         count: u64,
@@ -48,6 +65,7 @@ extern "C" {
     fn via_compact(
         list: In,
         len: usize,
+        index: u64,
         block_size: u64,
         k: u64,
         new_id: u64,
@@ -126,6 +144,7 @@ fn tidy(list: &[u8], out: &mut [u8]) -> ezk_answer {
 
 fn read_plan(
     list: &[u8],
+    index: u64,
     chunk_len: u64,
     block_size: u64,
     start: u64,
@@ -135,12 +154,34 @@ fn read_plan(
     let (list, len) = (list.as_ptr(), list.len());
     let (out, out_len) = (out.as_mut_ptr(), out.len());
     answer(filled(|to| unsafe {
-        via_read_plan(list, len, chunk_len, block_size, start, count, out, out_len, to)
+        via_read_plan(list, len, index, chunk_len, block_size, start, count, out, out_len, to)
     }))
+}
+
+#[allow(clippy::too_many_arguments)] // these are the call's own inputs
+fn file_plan(
+    lists: &[u8],
+    lengths: &[u64],
+    first_index: u64,
+    file_len: u64,
+    block_size: u64,
+    start: u64,
+    count: u64,
+    out: &mut [u8],
+) -> ezk_file_answer {
+    let (lists, lists_len) = (lists.as_ptr(), lists.len());
+    let (row, rows) = (lengths.as_ptr(), lengths.len());
+    let (out, out_len) = (out.as_mut_ptr(), out.len());
+    let (first, end, size) = (first_index, file_len, block_size);
+    let [refusal, place, index, count] = filled(|to| unsafe {
+        via_file_plan(lists, lists_len, row, rows, first, end, size, start, count, out, out_len, to)
+    });
+    ezk_file_answer { refusal, place, index, count }
 }
 
 fn compact(
     list: &[u8],
+    index: u64,
     block_size: u64,
     k: u64,
     new_id: u64,
@@ -151,7 +192,7 @@ fn compact(
     let (plan, plan_len) = (plan.as_mut_ptr(), plan.len());
     let (new, new_len) = (new_list.as_mut_ptr(), new_list.len());
     let [refusal, place, plan, list] = filled(|to| unsafe {
-        via_compact(list, len, block_size, k, new_id, plan, plan_len, new, new_len, to)
+        via_compact(list, len, index, block_size, k, new_id, plan, plan_len, new, new_len, to)
     });
     ezk_compacted { refusal, place, plan, list }
 }

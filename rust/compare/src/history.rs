@@ -76,7 +76,7 @@ fn other_size(record: &mut [u8]) {
 /// The new list of a compaction; the list itself where there is none.
 fn compacted(rng: &mut Rng, list: Vec<u8>) -> Vec<u8> {
     let (k, new_id) = (rng.below((list.len() / RECORD) as u64 + 1), 1_000_000 + rng.below(1_000));
-    second::compact_bytes(&list, 65_536, k, new_id).map_or(list, |answers| answers.1)
+    second::compact_bytes(&list, 0, 65_536, k, new_id).map_or(list, |answers| answers.1)
 }
 
 /// The older list ends inside a record of the newer.

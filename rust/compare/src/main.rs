@@ -13,6 +13,7 @@ mod expected;
 mod header;
 mod history;
 mod ids;
+mod joined;
 mod lent;
 mod lists;
 mod marks;

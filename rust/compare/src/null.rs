@@ -6,8 +6,9 @@ use std::ptr::{null, null_mut};
 
 use ezumokarin::sys::*;
 use second::limits::RECORD;
+use second::File;
 
-use crate::expected::{answered, chunk_key, compacted, found, object, part};
+use crate::expected::{across, answered, chunk_key, compacted, found, object, part};
 use crate::tally::Tally;
 
 const BLOCK: u64 = 65_536;
@@ -21,17 +22,27 @@ pub fn run(tally: &mut Tally) {
         for chunk_len in [0, 5] {
             let got = ezk_view(nil, 0, chunk_len, out, 0);
             same(tally, "view", got, answered(second::view(&[], chunk_len, &mut [])));
-            let got = ezk_read_plan(nil, 0, chunk_len, BLOCK, 0, 9, out, 0);
-            let want = second::read_plan(&[], chunk_len, BLOCK, 0, 9, &mut []);
+            let got = ezk_read_plan(nil, 0, 7, chunk_len, BLOCK, 0, 9, out, 0);
+            let want = second::read_plan(&[], 7, chunk_len, BLOCK, 0, 9, &mut []);
             same(tally, "read_plan", got, answered(want));
+        }
+        for lengths in [&[][..], &[0], &[0, 0], &[24]] {
+            let start = if lengths.is_empty() { null() } else { lengths.as_ptr() };
+            for file_len in [0, 9] {
+                let got =
+                    ezk_file_plan(nil, 0, start, lengths.len(), 0, file_len, BLOCK, 0, 9, out, 0);
+                let file = File { lists: &[], lengths, first_index: 0, file_len };
+                let want = second::file_plan(&file, BLOCK, 0, 9, &mut []);
+                same(tally, "file_plan", got, across(want));
+            }
         }
         for segments in [0, 1, u64::MAX] {
             let want = found(second::find(&[], segments, 0));
             same(tally, "find", ezk_find(nil, 0, segments, 0), want);
         }
         same(tally, "tidy", ezk_tidy(nil, 0, out, 0), answered(second::tidy(&[], &mut [])));
-        let got = ezk_compact(nil, 0, BLOCK, 0, 1, out, 0, out, 0);
-        let want = second::compact(&[], BLOCK, 0, 1, &mut [], &mut []);
+        let got = ezk_compact(nil, 0, 7, BLOCK, 0, 1, out, 0, out, 0);
+        let want = second::compact(&[], 7, BLOCK, 0, 1, &mut [], &mut []);
         same(tally, "compact", got, compacted(want));
         let one = [0; RECORD];
         same(tally, "added", ezk_added(nil, 0, nil, 0), part(&[], &[]));

@@ -127,6 +127,14 @@ pub fn block_length(rng: &mut Rng) -> u64 {
     }
 }
 
+/// The index that pieces carry: mostly one of 32 bits.
+pub fn chunk_index(rng: &mut Rng) -> u64 {
+    if rng.once_in(6) {
+        return index(rng);
+    }
+    rng.below(1 << 32) >> rng.below(32)
+}
+
 pub fn index(rng: &mut Rng) -> u64 {
     match rng.below(8) {
         0 => 4_294_967_294 + rng.below(4),

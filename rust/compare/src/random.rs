@@ -52,6 +52,7 @@ fn with_list(rng: &mut Rng) -> Call {
         1 | 2 => Call::View { chunk_len: numbers::chunk_len(rng), list, out },
         3 | 4 => Call::Tidy { list, out },
         5 | 6 => Call::ReadPlan {
+            index: numbers::chunk_index(rng),
             chunk_len: numbers::chunk_len(rng),
             block_size: numbers::block_size(rng),
             start: numbers::position(rng, &list),
@@ -60,6 +61,7 @@ fn with_list(rng: &mut Rng) -> Call {
             out,
         },
         _ => Call::Compact {
+            index: numbers::chunk_index(rng),
             block_size: numbers::block_size(rng),
             k: numbers::first_records(rng, &list),
             new_id: numbers::new_id(rng, &list),

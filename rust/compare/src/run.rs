@@ -1,5 +1,6 @@
 //! Makes one call through a binding of the archive and by the second program, and says what differs.
 
+mod file;
 mod two;
 
 use std::fmt::Debug;
@@ -40,16 +41,20 @@ pub fn run(binding: &Binding, call: &Call, shift: usize) -> Seen {
         Call::Tidy { list, out } => {
             writing(list, second::tidy_bytes(list), *out, shift, binding.tidy)
         }
-        Call::ReadPlan { list, chunk_len, block_size, start, count, out } => {
-            let want = second::read_plan_bytes(list, *chunk_len, *block_size, *start, *count);
+        Call::ReadPlan { list, index, chunk_len, block_size, start, count, out } => {
+            let want =
+                second::read_plan_bytes(list, *index, *chunk_len, *block_size, *start, *count);
             writing(list, want, *out, shift, |list, out| {
-                (binding.read_plan)(list, *chunk_len, *block_size, *start, *count, out)
+                (binding.read_plan)(list, *index, *chunk_len, *block_size, *start, *count, out)
             })
         }
-        Call::Compact { list, block_size, k, new_id, plan, new_list } => {
-            let want = second::compact_bytes(list, *block_size, *k, *new_id);
+        Call::FilePlan { file, block_size, start, count, out } => {
+            file::writing(file, (*block_size, *start, *count), *out, shift, binding.file_plan)
+        }
+        Call::Compact { list, index, block_size, k, new_id, plan, new_list } => {
+            let want = second::compact_bytes(list, *index, *block_size, *k, *new_id);
             compacting(list, want, (*plan, *new_list), shift, |list, plan, new_list| {
-                (binding.compact)(list, *block_size, *k, *new_id, plan, new_list)
+                (binding.compact)(list, *index, *block_size, *k, *new_id, plan, new_list)
             })
         }
         Call::Added { pair } => two::reading(pair, shift, binding.added),

@@ -8,9 +8,9 @@ use crate::call::Call;
 use crate::run;
 
 /// The refusals' numbers; 0 is an answer.
-const NUMBERS: [usize; 14] = [1, 2, 3, 4, 5, 6, 7, 8, 9, 10, 11, 12, 13, 16];
+const NUMBERS: [usize; 15] = [1, 2, 3, 4, 5, 6, 7, 8, 9, 10, 11, 12, 13, 16, 21];
 /// Above every number.
-const REFUSALS: usize = 17;
+const REFUSALS: usize = 22;
 /// Differences that are printed in full; the rest are only counted.
 const SHOWN: u64 = 10;
 

@@ -44,7 +44,7 @@ fn rewritten() -> Vec<Pair> {
         pairs.push(Pair::apart(&older, &newer));
     }
     for k in 0..=3 {
-        let (_, newer) = second::compact_bytes(&three(), BLOCK, k, 99).expect("a plan");
+        let (_, newer) = second::compact_bytes(&three(), 0, BLOCK, k, 99).expect("a plan");
         pairs.push(Pair::apart(&three(), &newer));
     }
     pairs
