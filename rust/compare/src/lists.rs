@@ -69,10 +69,10 @@ pub fn combed(id: u64, bytes: u64) -> Vec<Record> {
 /// as a list may be, or a little longer; some combs are so once they are tidied.
 fn records(rng: &mut Rng, shape: u64) -> u64 {
     match rng.below(2_000) {
-        0..=4 => LIST_RECORDS as u64 - 8 + rng.below(17),
-        5..=40 if shape == COMB => TIDIED_RECORDS as u64 / 2 - 32 + rng.below(80),
-        5..=300 if shape == SLICES => 150 + rng.below(300),
-        5..=60 => rng.below(120),
+        0..=11 => LIST_RECORDS as u64 - 8 + rng.below(17),
+        12..=100 if shape == COMB => TIDIED_RECORDS as u64 / 2 - 32 + rng.below(80),
+        12..=600 if shape == SLICES => 150 + rng.below(300),
+        12..=70 => rng.below(120),
         _ => rng.below(11),
     }
 }

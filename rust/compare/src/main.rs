@@ -10,6 +10,7 @@ mod cases;
 mod combinations;
 mod constants;
 mod expected;
+mod files;
 mod header;
 mod history;
 mod ids;

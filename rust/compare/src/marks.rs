@@ -1,6 +1,7 @@
-//! Kinds of lists, of seeking and of pairs of lists that random calls must have met, each counted
-//! in a table of its own.
+//! Kinds of lists, of seeking, of pairs of lists and of reads across chunks that random calls must
+//! have met, each counted in a table of its own.
 
+mod files;
 mod history;
 mod seeking;
 
@@ -38,6 +39,7 @@ const MARKS: [Mark; 9] = [
 pub fn count(tally: &mut Tally, call: &Call, refusal: u64) {
     seeking::count(tally, call);
     history::count(tally, call, refusal);
+    files::count(tally, call, refusal);
     let Some(list) = call.list() else {
         return;
     };
@@ -53,7 +55,8 @@ pub fn missed(tally: &Tally) -> Vec<String> {
     let missed = pairs.filter(|(mark, call)| tally.counted(mark.name, call, mark.met) == 0);
     let said =
         |(mark, call): (&Mark, &str)| format!("no {call} of {} gives {}", mark.name, mark.met);
-    missed.map(said).chain(seeking::missed(tally)).chain(history::missed(tally)).collect()
+    let others = seeking::missed(tally).chain(history::missed(tally)).chain(files::missed(tally));
+    missed.map(said).chain(others).collect()
 }
 
 fn sized_zeros(record: &Record) -> bool {

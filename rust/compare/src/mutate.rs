@@ -1,5 +1,7 @@
 //! Small changes that spoil a sound list, a view or a sound text.
 
+pub mod lengths;
+
 use second::limits::{CHUNK, RECORD};
 use second::Record;
 

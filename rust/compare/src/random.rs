@@ -2,7 +2,7 @@
 
 use crate::call::{Call, Room};
 use crate::tally::Tally;
-use crate::{history, lists, marks, mutate, numbers, texts, views};
+use crate::{files, history, lists, marks, mutate, numbers, texts, views};
 use rng::Rng;
 
 const ORIGIN: &str = "random";
@@ -18,7 +18,7 @@ pub fn run(tally: &mut Tally, seed: u64, calls: u64) {
 }
 
 /// Random calls must meet every refusal that the chosen calls do, and every kind of list, of
-/// seeking and of pair that is marked; else they are too tame.
+/// seeking, of pair and of read across chunks that is marked; else they are too tame.
 pub fn reach(tally: &mut Tally) {
     for missed in marks::missed(tally) {
         tally.difference("random calls", &missed);
@@ -29,10 +29,14 @@ pub fn reach(tally: &mut Tally) {
 }
 
 fn any_call(rng: &mut Rng) -> Call {
-    match rng.below(13) {
-        0..=7 => with_list(rng),
-        8 => in_view(rng),
-        9 => Call::Added { pair: history::pair(rng) },
+    match rng.below(18) {
+        0..=9 => with_list(rng),
+        10 => in_view(rng),
+        11 => Call::Added { pair: history::pair(rng) },
+        12..=14 => {
+            let out = room(rng);
+            files::call(rng, out)
+        }
         _ => with_text(rng),
     }
 }

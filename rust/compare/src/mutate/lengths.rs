@@ -1,0 +1,31 @@
+//! Changes of the lengths of lists: some keep their sum, some only if it wraps.
+
+use rng::Rng;
+
+/// Changes the lengths in one way.
+pub fn list(rng: &mut Rng, lengths: &mut Vec<u64>) {
+    let count = lengths.len() as u64;
+    if count == 0 {
+        lengths.push(rng.below(2));
+        return;
+    }
+    let (a, b) = (rng.below(count) as usize, rng.below(count) as usize);
+    match rng.below(9) {
+        0 => lengths[a] += 1,
+        1 => lengths[a] = lengths[a].saturating_sub(1),
+        2 => lengths.swap(a, b),
+        3 => lengths.push(0),
+        4 => drop(lengths.pop()),
+        5 => moved(lengths, a, b, rng.pick(&[1, 24])),
+        6 => lengths.iter_mut().for_each(|length| *length = length.wrapping_add(1 << 60)),
+        7 => lengths[a] = lengths[a].wrapping_add(1 << (32 + rng.below(32))),
+        // By half of 2^64 in two lists, or by all of it in one, which leaves it as it is.
+        _ => [a, b].map(|i| lengths[i] = lengths[i].wrapping_add(1 << 63)).into_iter().collect(),
+    }
+}
+
+/// Some bytes of a list become the other's; with too few of them both sums wrap.
+fn moved(lengths: &mut [u64], from: usize, to: usize, bytes: u64) {
+    lengths[from] = lengths[from].wrapping_sub(bytes);
+    lengths[to] = lengths[to].wrapping_add(bytes);
+}
