@@ -15,6 +15,7 @@ const BLOCK: u64 = 65_536;
 
 /// Safe because a call touches no byte of an input or buffer of length 0.
 pub fn run(tally: &mut Tally) {
+    files(tally);
     let (nil, out) = (null(), null_mut());
     unsafe {
         let got = ezk_check(nil, 0);
@@ -25,16 +26,6 @@ pub fn run(tally: &mut Tally) {
             let got = ezk_read_plan(nil, 0, 7, chunk_len, BLOCK, 0, 9, out, 0);
             let want = second::read_plan(&[], 7, chunk_len, BLOCK, 0, 9, &mut []);
             same(tally, "read_plan", got, answered(want));
-        }
-        for lengths in [&[][..], &[0], &[0, 0], &[24]] {
-            let start = if lengths.is_empty() { null() } else { lengths.as_ptr() };
-            for file_len in [0, 9] {
-                let got =
-                    ezk_file_plan(nil, 0, start, lengths.len(), 0, file_len, BLOCK, 0, 9, out, 0);
-                let file = File { lists: &[], lengths, first_index: 0, file_len };
-                let want = second::file_plan(&file, BLOCK, 0, 9, &mut []);
-                same(tally, "file_plan", got, across(want));
-            }
         }
         for segments in [0, 1, u64::MAX] {
             let want = found(second::find(&[], segments, 0));
@@ -66,6 +57,21 @@ pub fn run(tally: &mut Tally) {
         same(tally, "read_redis_key", ezk_read_redis_key(nil, 0), want);
         let want = chunk_key(second::read_tkv_key(&[]));
         same(tally, "read_tkv_key", ezk_read_tkv_key(nil, 0), want);
+    }
+}
+
+/// The lengths are null where there are none.
+fn files(tally: &mut Tally) {
+    for (lengths, file_len) in
+        [&[][..], &[0], &[0, 0], &[24]].map(|row| [(row, 0), (row, 9)]).concat()
+    {
+        let file = File { lists: &[], lengths, first_index: 0, file_len };
+        let want = second::file_plan(&file, BLOCK, 0, 9, &mut []);
+        let (nil, out, count) = (null(), null_mut(), lengths.len());
+        let lengths = if count == 0 { null() } else { lengths.as_ptr() };
+        let got =
+            unsafe { ezk_file_plan(nil, 0, lengths, count, 0, file_len, BLOCK, 0, 9, out, 0) };
+        same(tally, "file_plan", got, across(want));
     }
 }
 

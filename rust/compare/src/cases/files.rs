@@ -107,7 +107,8 @@ fn lengths() -> Vec<Call> {
 
 /// The last list's index at 2^32 - 1 and past it, also where nothing is read.
 fn indexes() -> Vec<Call> {
-    let mut calls = Vec::new();
+    let mut calls: Vec<Call> =
+        [INDEX_MAX, INDEX_MAX + 1, 1 << 40, u64::MAX].into_iter().flat_map(of_nothing).collect();
     for lists in [1, 2, 16] {
         let last = INDEX_MAX + 1 - lists as u64;
         for first_index in [last, last + 1, INDEX_MAX, INDEX_MAX + 1, u64::MAX - 1, u64::MAX] {
@@ -118,6 +119,17 @@ fn indexes() -> Vec<Call> {
         }
     }
     calls
+}
+
+/// A read and a compaction of one chunk, of no bytes.
+fn of_nothing(index: u64) -> [Call; 2] {
+    let (block_size, out) = (BLOCK, Room::Right);
+    let (list, chunk_len, start, count) = (three(), CHUNK, 0, 0);
+    let (k, new_id, plan, new_list) = (0, 99, out, out);
+    [
+        Call::ReadPlan { list: list.clone(), index, chunk_len, block_size, start, count, out },
+        Call::Compact { list, index, block_size, k, new_id, plan, new_list },
+    ]
 }
 
 /// One refused list for each number at each place, read or not.

@@ -31,7 +31,7 @@ const ANSWERED: &[u64] = &[0];
 const MARKS: [Mark; 19] = [
     Mark { name: "file, zeros at an edge", is: zeros_at_an_edge, met: ANSWERED },
     Mark { name: "file, object over an edge", is: object_over_an_edge, met: ANSWERED },
-    Mark { name: "file, two objects at an edge", is: two_objects_at_an_edge, met: ANSWERED },
+    Mark { name: "file, two objects at edge", is: two_objects_at_an_edge, met: ANSWERED },
     Mark {
         name: "file, one chunk alone",
         is: |a| a.file.lengths.len() == 1 && a.reads(),
@@ -43,7 +43,7 @@ const MARKS: [Mark; 19] = [
     Mark { name: "file, place past 64 MiB", is: place_past_chunk, met: ANSWERED },
     Mark { name: "file, the last index", is: last_index, met: ANSWERED },
     Mark { name: "file, ends in the last list", is: ends_in_the_last, met: ANSWERED },
-    Mark { name: "file, ends in an earlier one", is: ends_earlier, met: ANSWERED },
+    Mark { name: "file, ends in an earlier", is: ends_earlier, met: ANSWERED },
     Mark { name: "file, ends at an edge", is: ends_at_an_edge, met: ANSWERED },
     Mark { name: "file, ends before the first", is: ends_before, met: ANSWERED },
     Mark { name: "file, longer than its lists", is: longer_than_lists, met: ANSWERED },
@@ -116,8 +116,8 @@ impl Asked<'_> {
         pairs.filter(|(before, behind)| before.index != behind.index)
     }
 
-    /// How many bytes the file has from the first list's chunk on.
-    fn from_first(&self) -> u64 {
+    /// The file's end, counted from the first list's chunk.
+    fn file_end(&self) -> u64 {
         self.file.file_len.saturating_sub(self.file.first_index.saturating_mul(CHUNK))
     }
 
@@ -128,7 +128,7 @@ impl Asked<'_> {
 
     /// The plan goes up to the file's end, which lies before the last list's, and was asked further.
     fn is_cut_to_file(&self) -> bool {
-        let end = self.from_first();
+        let end = self.file_end();
         let cut = u128::from(self.start) + u128::from(self.count) > u128::from(end);
         self.reads() && end < self.of_lists() && cut
     }
@@ -169,15 +169,15 @@ fn last_index(a: &Asked) -> bool {
 
 fn ends_in_the_last(a: &Asked) -> bool {
     let last = a.of_lists().saturating_sub(CHUNK);
-    a.is_cut_to_file() && a.from_first() > last && a.from_first() % CHUNK != 0
+    a.is_cut_to_file() && a.file_end() > last && !a.file_end().is_multiple_of(CHUNK)
 }
 
 fn ends_earlier(a: &Asked) -> bool {
-    a.is_cut_to_file() && a.from_first() + CHUNK < a.of_lists() && a.from_first() % CHUNK != 0
+    a.is_cut_to_file() && a.file_end() + CHUNK < a.of_lists() && !a.file_end().is_multiple_of(CHUNK)
 }
 
 fn ends_at_an_edge(a: &Asked) -> bool {
-    a.is_cut_to_file() && a.from_first() % CHUNK == 0
+    a.is_cut_to_file() && a.file_end().is_multiple_of(CHUNK)
 }
 
 fn ends_before(a: &Asked) -> bool {
@@ -187,11 +187,11 @@ fn ends_before(a: &Asked) -> bool {
 
 fn longer_than_lists(a: &Asked) -> bool {
     let asked = u128::from(a.start) + u128::from(a.count);
-    a.reads() && a.from_first() > a.of_lists() && asked > u128::from(a.of_lists())
+    a.reads() && a.file_end() > a.of_lists() && asked > u128::from(a.of_lists())
 }
 
 fn past_the_end(a: &Asked) -> bool {
-    let end = a.from_first().min(a.of_lists());
+    let end = a.file_end().min(a.of_lists());
     a.plan.is_ok() && end > 0 && a.start >= end && a.count > 0
 }
 

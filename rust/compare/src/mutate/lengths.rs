@@ -19,12 +19,11 @@ pub fn list(rng: &mut Rng, lengths: &mut Vec<u64>) {
         5 => moved(lengths, a, b, rng.pick(&[1, 24])),
         6 => lengths.iter_mut().for_each(|length| *length = length.wrapping_add(1 << 60)),
         7 => lengths[a] = lengths[a].wrapping_add(1 << (32 + rng.below(32))),
-        // By half of 2^64 in two lists, or by all of it in one, which leaves it as it is.
-        _ => [a, b].map(|i| lengths[i] = lengths[i].wrapping_add(1 << 63)).into_iter().collect(),
+        _ => moved(lengths, a, b, 1 << 63),
     }
 }
 
-/// Some bytes of a list become the other's; with too few of them both sums wrap.
+/// Some bytes of a list become the other's; with too few of them one length wraps.
 fn moved(lengths: &mut [u64], from: usize, to: usize, bytes: u64) {
     lengths[from] = lengths[from].wrapping_sub(bytes);
     lengths[to] = lengths[to].wrapping_add(bytes);

@@ -104,7 +104,7 @@ fn last_refused(a: &Asked) -> bool {
 
 /// Some bytes are asked for, and all of them lie in other chunks than the refused list's.
 fn not_read(a: &Asked) -> bool {
-    let asked = a.count > 0 && a.start < a.from_first().min(a.of_lists());
+    let asked = a.count > 0 && a.start < a.file_end().min(a.of_lists());
     let end = u128::from(a.start) + u128::from(a.count);
     let apart = |number: usize| {
         let chunk = number as u64 * CHUNK;
