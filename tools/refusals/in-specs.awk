@@ -23,11 +23,12 @@ BEGIN {
   next
 }
 
-# A definition by its signature, its clauses and the lines that go on with them. One that gives rows is a table.
+# A definition by its signature, its clauses and the lines that go on with them. One that gives rows is a table, over whatever type of refusal; that of several
+# lists (`listsRows`) counts with the rows of one.
 /^(unfoldable |abbrev )?pub [A-Za-z]+ : / {
   begin(/^pub/ ? $2 : $3)
   sub(/.*( :|→) /, "")
-  if (name != "row" && /^(List )?Row$|^Outcome /) counts[key] = 1
+  if (name != "row" && /^(List )?\(?Row(Of [A-Z][A-Za-z]+)?\)?$|^Outcome(Of [A-Z][A-Za-z]+)? /) counts[key] = 1
   next
 }
 /^pub (record|data) / { begin(""); next }
