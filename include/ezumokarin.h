@@ -7,13 +7,15 @@
  * writes its answer at the front of the buffer and leaves the rest as it was. The library
  * keeps no pointer and has no state, and a call needs less than 96 KiB of stack.
  *
- * A pointer must be good for as many bytes as the length beside it; with length 0 it may
- * be NULL. Buffers to be written may overlap neither each other nor the inputs.
+ * A pointer must be good for as many bytes, or numbers, as the length or count beside it; with
+ * 0 it may be NULL. Buffers to be written may overlap neither each other nor the inputs.
  *
  * Refusals. `place` is the place of the record in its list, counted from 0, for 3 to 6 and
  * 16; for all others it is 0. Where several fit, the first in this order is given:
- * 7, 8, 1, 2, then the first bad record and in it 3, 4, 5, 6; then 16, 10, 9, 13, 11, 12.
+ * 7, 21, 8, 1, 2, then the first bad record and in it 3, 4, 5, 6; then 16, 10, 9, 13, 11, 12.
  * ezk_added goes through it once for the older list, and only then for the newer.
+ * ezk_file_plan goes through 1 to 6 and 16 list by list: the first refused list in chunk
+ * order decides, and its place is counted in its own list.
  * A block size is allowed if it is a power of two from 65,536 to 16,777,216.
  *
  *   EZK_LIST_LENGTH     1  list length is no multiple of 24
@@ -32,6 +34,8 @@
  *   EZK_FORM           13  a name or key not of its form, or numbers to be written that the
  *                          form doesn't allow
  *   EZK_TWO_SIZES      16  an earlier record has this id, not 0, and another size
+ *   EZK_CHUNK_LISTS    21  another number of lists than 1 to 16, lengths that don't add up to
+ *                          the bytes lent, or an index past 32 bits
  */
 #ifndef EZUMOKARIN_H
 #define EZUMOKARIN_H
@@ -58,15 +62,20 @@ enum {
     EZK_TIDIED_RECORDS = 11,
     EZK_BUFFER = 12,
     EZK_FORM = 13,
-    EZK_TWO_SIZES = 16
+    EZK_TWO_SIZES = 16,
+    EZK_CHUNK_LISTS = 21
 };
 
-/* Bytes of a chunk, of a slice record, of a piece of a plan, and of a TKV chunk key. */
+/*
+ * Bytes of a chunk, of a slice record, of a piece of a plan, and of a TKV chunk key; and the
+ * most lists that ezk_file_plan takes.
+ */
 enum {
     EZK_CHUNK = 67108864,
     EZK_RECORD = 24,
-    EZK_PIECE = 30,
-    EZK_TKV_KEY = 14
+    EZK_PIECE = 34,
+    EZK_TKV_KEY = 14,
+    EZK_LISTS = 16
 };
 
 /*
@@ -81,11 +90,15 @@ enum {
  * bytes, its block length, and is the object that ezk_write_object_name names for the id, i
  * and the block length.
  *
- * A piece of a plan has 30 bytes: a mark of two bytes, "RB" for an object or "RZ" for
- * zeros, then big-endian: place from the start of the read (4), id (8), block (4), block
- * length (4), place in block (4), length (4). For "RZ" the id, block, block length and
- * place in block are 0. Byte j of a piece, from 0 up to its length, is byte place in block + j
- * of the object (id, block, block length), or 0 for "RZ". It is byte place + j of the read.
+ * A file is divided into chunks of 64 MiB, each with a list of its own. The chunk with index i
+ * holds the file's bytes from i * 64 MiB on; an index has 32 bits.
+ *
+ * A piece of a plan has 34 bytes: a mark of two bytes, "RB" for an object or "RZ" for
+ * zeros, then big-endian: index of its chunk (4), place from the start of the read (4), id (8),
+ * block (4), block length (4), place in block (4), length (4). For "RZ" the id, block, block
+ * length and place in block are 0. Byte j of a piece, from 0 up to its length, is byte place in
+ * block + j of the object (id, block, block length), or 0 for "RZ". It is byte place + j of the
+ * read.
  */
 
 /* In all structs: refusal is 0 on success, and fields without meaning are 0. */
@@ -109,6 +122,14 @@ typedef struct ezk_found {
     uint64_t off;
     uint64_t len;
 } ezk_found;
+
+/* What ezk_file_plan returns. */
+typedef struct ezk_file_answer {
+    uint64_t refusal;
+    uint64_t place;
+    uint64_t index; /* chunk index of the refused list, for 1 to 6 and 16; else 0 */
+    uint64_t count; /* bytes written */
+} ezk_file_answer;
 
 /* What compaction returns. */
 typedef struct ezk_compacted {
@@ -201,19 +222,57 @@ ezk_answer ezk_tidy(const uint8_t *list, size_t list_len, uint8_t *out, size_t o
 /*
  * Writes the plan of a read of count bytes from start, cut to chunk_len: pieces that read
  * as zero or lie in one object at consecutive places. A start at or past chunk_len, or a
- * count of 0, gives an empty plan.
- * Refusals, in order: 7, 8, 1, 2, 3 to 6, 16, 12.
+ * count of 0, gives an empty plan. Each piece carries the chunk's index as it is given; one
+ * past 32 bits is refusal 21, also where the plan would be empty.
+ * Refusals, in order: 7, 21, 8, 1, 2, 3 to 6, 16, 12.
  */
-ezk_answer ezk_read_plan(const uint8_t *list, size_t list_len, uint64_t chunk_len,
-                         uint64_t block_size, uint64_t start, uint64_t count,
-                         uint8_t *out, size_t out_len);
+ezk_answer ezk_read_plan(const uint8_t *list, size_t list_len, uint64_t index,
+                         uint64_t chunk_len, uint64_t block_size, uint64_t start,
+                         uint64_t count, uint8_t *out, size_t out_len);
+
+/*
+ * Writes the plan of a read across the chunks of a file.
+ *
+ * The lists of 1 to 16 chunks, of first_index, first_index + 1 and so on, stand in `lists`, one
+ * after the other in this order and with nothing between them. lengths has lengths_count
+ * numbers, one a list: the bytes of each list, 0 for the empty list of a chunk in which nothing
+ * was written. They must add up to lists_len, and the last index must be below 2^32; else it is
+ * refusal 21, and no list is looked at.
+ *
+ * The read is count bytes from start, which is counted from the beginning of chunk first_index.
+ * It is cut to the file's end and to the last list's end, whichever comes first. file_len is the
+ * length of the whole file, counted from the file's beginning: with n lists the read ends at
+ * min(file_len - first_index * 64 MiB, n * 64 MiB) at the latest, counted as start is. A start
+ * at or past that, also where the file ends before chunk first_index, or a count of 0, gives an
+ * empty plan. All these numbers are of mathematics: no sum wraps.
+ *
+ * The pieces are the longest runs of one chunk that read as zero or lie in one object at
+ * consecutive places. None crosses a chunk's edge, zeros neither. Each carries the index of its
+ * chunk; places count from the start of the whole read, through all chunks. With one list the
+ * plan is that of ezk_read_plan for its index, with what is left of the file, at most 64 MiB, as
+ * chunk_len.
+ *
+ * Every list is checked, also one that the read does not touch. The answer's index tells which
+ * list was refused. Index 0 is a chunk's too: the refusal tells whether it speaks of a list. Each
+ * list is looked at by itself: one slice may have two sizes in two lists.
+ *
+ * No plan has more than 4 * (records of all lists) + 2 * (lists) + (bytes of the read) /
+ * block_size pieces. If out has room for as many, nothing is counted first. With less room the
+ * read is planned twice, once to count, and refused with 12 if the plan does not fit.
+ * Refusals, in order: 21, 8, then list by list 1, 2, 3 to 6, 16, then 12.
+ */
+ezk_file_answer ezk_file_plan(const uint8_t *lists, size_t lists_len, const uint64_t *lengths,
+                              size_t lengths_count, uint64_t first_index, uint64_t file_len,
+                              uint64_t block_size, uint64_t start, uint64_t count,
+                              uint8_t *out, size_t out_len);
 
 /*
  * Writes the plan that copies the first k records into the new slice new_id, and the new
  * list. With p the first and q the last position that the first k records cover, the plan is
  * that of a read of p to q from them, and the new list is one record (pos p, id new_id, size
  * and len q - p + 1, off 0) and the remaining records. If the first k records cover nothing,
- * the plan is empty and the new list is the remaining records.
+ * the plan is empty and the new list is the remaining records. Each piece carries the chunk's
+ * index as it is given; one past 32 bits is refusal 21, also where the plan would be empty.
  *
  * To carry the plan out: a piece's place is an offset in the new slice, which has q - p + 1
  * bytes. Byte j of a piece at place s goes to slice offset s + j, and so into block
@@ -223,11 +282,11 @@ ezk_answer ezk_read_plan(const uint8_t *list, size_t list_len, uint64_t chunk_le
  * Store the new list only once the whole new slice is stored. From then on the old list and
  * the new one read the same bytes, also with the same records appended to both. Passed to a
  * call, a list with its appended records must be accepted as one: refusal 16 looks at all.
- * Refusals, in order: 8, 1, 2, 3 to 6, 16, 10, 9, 12.
+ * Refusals, in order: 21, 8, 1, 2, 3 to 6, 16, 10, 9, 12.
  */
-ezk_compacted ezk_compact(const uint8_t *list, size_t list_len, uint64_t block_size,
-                          uint64_t k, uint64_t new_id, uint8_t *plan, size_t plan_len,
-                          uint8_t *new_list, size_t new_list_len);
+ezk_compacted ezk_compact(const uint8_t *list, size_t list_len, uint64_t index,
+                          uint64_t block_size, uint64_t k, uint64_t new_id, uint8_t *plan,
+                          size_t plan_len, uint8_t *new_list, size_t new_list_len);
 
 /*
  * Tells what is new since last time: older is a list as it was read before, newer the same list
