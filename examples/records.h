@@ -1,4 +1,4 @@
-/* What the examples share: reading numbers, stopping at a refusal, printing records. */
+/* What the examples share: reading numbers, writing records, stopping at a refusal, printing. */
 #include <inttypes.h>
 #include <stdio.h>
 #include <stdlib.h>
@@ -12,6 +12,16 @@ static inline uint64_t number(const uint8_t *bytes, int width)
     while (width-- > 0)
         n = n << 8 | *bytes++;
     return n;
+}
+
+/* Writes a record of pos, id, size, off and len; returns where it ends. */
+static inline uint8_t *put_record(uint8_t *to, const uint64_t fields[5])
+{
+    static const int widths[5] = {4, 8, 4, 4, 4};
+    for (int field = 0; field < 5; field++)
+        for (int byte = widths[field]; byte-- > 0;)
+            *to++ = (uint8_t)(fields[field] >> 8 * byte);
+    return to;
 }
 
 /* Ends the program where a call was refused. */

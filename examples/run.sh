@@ -21,14 +21,14 @@ TABLE
 # from 70,040. They cover 100 to 70,059, so the new slice has 69,960 bytes, in blocks of 65,536 and 4,424. Slice 1 has blocks of 65,536 and 4,464; the second
 # starts at position 65,586, which is place 65,486. Byte o of slice i is 60 i + o % 60. The bytes printed are those at 97 (uncovered), 98 and 101 (slice 3, offsets
 # 0 and 3), 102 (slice 1, offset 52), 110 (a zero), 115, 65,586, 65,636 and 70,039 (slice 1, offsets 65, 65,536, 65,586 and 69,989), 70,040 (slice 2, offset 0)
-# and 70,060 (uncovered).
+# and 70,060 (uncovered). The chunk has index 5.
 cat > "$work/compact.expected" <<'TEXT'
 old list reads 0 180 183 112 0 65 76 66 89 120 0
-RB 0 10
-RZ 10 5
-RB 15 65471
-RB 65486 4454
-RB 69940 20
+RB 5 0 10
+RZ 5 10 5
+RB 5 15 65471
+RB 5 65486 4454
+RB 5 69940 20
 chunks/0/0/1_0_65536
 chunks/0/0/1_1_4464
 chunks/0/0/2_0_20
@@ -62,6 +62,21 @@ added 0: 77008888....
 rewritten 2: 990099......
 refused 1 at 0: 990099......
 added 1: 990099....55
+TEXT
+
+# By hand, from the requirements. The read starts 61 MiB into chunk 2, and the file ends 2.5 MiB into chunk 3: 5.5 MiB are left. Slice 21 (5 MiB) from 58 MiB on
+# has blocks of 4 MiB and 1 MiB; its second starts at 62 MiB and ends at 63 MiB. Up to the edge nothing is covered, and behind it up to 1 MiB: two pieces, since
+# none crosses an edge. Slice 22 (2 MiB, one block) follows up to the file's end, but for 0.25 MiB of zeros at 2 MiB. Then the second record of chunk 3's list,
+# which is these zeros, has an off.
+cat > "$work/file.expected" <<'TEXT'
+RB 2 0 21 0 4194304 3145728 1048576
+RB 2 1048576 21 1 1048576 0 1048576
+RZ 2 2097152 0 0 0 0 1048576
+RZ 3 3145728 0 0 0 0 1048576
+RB 3 4194304 22 0 2097152 0 1048576
+RZ 3 5242880 0 0 0 0 262144
+RB 3 5505024 22 0 2097152 1310720 262144
+refused 5 at 1 in the list of chunk 3
 TEXT
 
 # The lines that the page shows, by hand from the requirements.
