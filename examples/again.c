@@ -44,7 +44,7 @@ static void over_older(const char *title, const uint8_t *list, size_t len)
 static void compacted(const char *title, const uint8_t *list, size_t len)
 {
     uint8_t plan[ROOM * EZK_PIECE], new_list[EZK_RECORD];
-    ezk_compacted c = ezk_compact(list, len, BLOCK, len / EZK_RECORD, 11, plan, sizeof plan,
+    ezk_compacted c = ezk_compact(list, len, 0, BLOCK, len / EZK_RECORD, 11, plan, sizeof plan,
                                   new_list, sizeof new_list);
     passed(c.refusal, c.place);
     print(title, new_list, c.list);
@@ -60,8 +60,10 @@ int main(void)
     print("the view of that view:", again, again_len);
 
     uint8_t plans[2][ROOM * EZK_PIECE] = {{0}};
-    written(ezk_read_plan(newer, EZK_RECORD, LENGTH, BLOCK, 0, LENGTH, plans[0], sizeof *plans));
-    written(ezk_read_plan(first, first_len, LENGTH, BLOCK, 0, LENGTH, plans[1], sizeof *plans));
+    written(ezk_read_plan(newer, EZK_RECORD, 0, LENGTH, BLOCK, 0, LENGTH, plans[0],
+                          sizeof *plans));
+    written(ezk_read_plan(first, first_len, 0, LENGTH, BLOCK, 0, LENGTH, plans[1],
+                          sizeof *plans));
     puts(memcmp(plans[0], plans[1], sizeof *plans) ? "read by other plans" : "read by one plan");
 
     over_older("the list over slice 9:", newer, EZK_RECORD);
