@@ -5,7 +5,7 @@
 #include <stdlib.h>
 #include <string.h>
 
-#include "lent.h"
+#include "pass.h"
 
 enum { TEXT_MAX = 160 };
 
@@ -21,8 +21,9 @@ static const struct {
     [VIEW] = {"view", 1, BIT(7) | LIST | BIT(12)},
     [FIND] = {"find", 0, BIT(1)},
     [TIDY] = {"tidy", 1, LIST | BIT(11) | BIT(12)},
-    [READ_PLAN] = {"read_plan", 1, BIT(7) | BIT(8) | LIST | BIT(12)},
-    [COMPACT] = {"compact", 2, BIT(8) | LIST | BIT(10) | BIT(9) | BIT(12)},
+    [READ_PLAN] = {"read_plan", 1, BIT(7) | BIT(21) | BIT(8) | LIST | BIT(12)},
+    [FILE_PLAN] = {"file_plan", 1, BIT(21) | BIT(8) | LIST | BIT(12)},
+    [COMPACT] = {"compact", 2, BIT(21) | BIT(8) | LIST | BIT(10) | BIT(9) | BIT(12)},
     [ADDED] = {"added", 0, LIST},
     [WRITE_OBJECT_NAME] = {"write_object_name", 1, BIT(13) | BIT(12)},
     [WRITE_FULL_NAME] = {"write_full_name", 1, BIT(13) | BIT(12)},
@@ -42,11 +43,19 @@ static void print(const char *what, const uint8_t *bytes, size_t len)
     fprintf(stderr, "\n");
 }
 
+static void print_numbers(const char *what, const uint64_t *numbers, size_t count)
+{
+    fprintf(stderr, "  %zu %s:", count, what);
+    for (size_t i = 0; i < count; i++)
+        fprintf(stderr, " %" PRIu64, numbers[i]);
+    fprintf(stderr, "\n");
+}
+
 _Noreturn void found(const call *call, const char *what)
 {
     fprintf(stderr, "FOUND in %s: %s\n", name(call->kind), what);
-    fprintf(stderr, "  numbers %" PRIu64 " %" PRIu64 " %" PRIu64 " %" PRIu64 "\n", call->number[0],
-            call->number[1], call->number[2], call->number[3]);
+    print_numbers("numbers", call->number, ARGUMENTS);
+    print_numbers("lengths", call->lengths, call->lists);
     print("bytes", call->bytes, call->len);
     if (call->kind == ADDED)
         print("bytes of the older list", call->older, call->older_len);
@@ -69,106 +78,6 @@ unsigned outputs(enum kind kind)
     return kinds[kind].outputs;
 }
 
-static answer answered(ezk_answer a)
-{
-    return (answer){.refusal = a.refusal, .place = a.place, .value = {a.count}};
-}
-
-static answer sought(ezk_found a)
-{
-    return (answer){.refusal = a.refusal,
-                    .place = a.place,
-                    .value = {a.found, a.segment, a.pos, a.id, a.size, a.off, a.len}};
-}
-
-static answer compacted(ezk_compacted a)
-{
-    return (answer){.refusal = a.refusal, .place = a.place, .value = {a.plan, a.list}};
-}
-
-static answer part(ezk_part a)
-{
-    return (answer){
-        .refusal = a.refusal, .place = a.place, .value = {a.rewritten, a.offset, a.length}};
-}
-
-static answer object(ezk_object a)
-{
-    return (answer){
-        .refusal = a.refusal, .place = a.place, .value = {a.id, a.block, a.length, a.volume}};
-}
-
-static answer chunk_key(ezk_chunk_key a)
-{
-    return (answer){.refusal = a.refusal, .place = a.place, .value = {a.inode, a.index}};
-}
-
-static int starts_with(const uint8_t *list, size_t len, const uint8_t *front, size_t front_len)
-{
-    return front_len <= len && (!front_len || !memcmp(list, front, front_len));
-}
-
-int begins(const call *call)
-{
-    return starts_with(call->bytes, call->len, call->older, call->older_len);
-}
-
-static answer pass(enum kind kind, const uint64_t n[4], const lent *in, const lent out[2])
-{
-    uint8_t *to = out[0].bytes;
-    size_t room = out[0].len;
-    switch (kind) {
-    case CHECK:
-        return answered(ezk_check(in->bytes, in->len));
-    case VIEW:
-        return answered(ezk_view(in->bytes, in->len, n[0], to, room));
-    case FIND:
-        return sought(ezk_find(in->bytes, in->len, n[0], n[1]));
-    case TIDY:
-        return answered(ezk_tidy(in->bytes, in->len, to, room));
-    case READ_PLAN:
-        return answered(ezk_read_plan(in->bytes, in->len, n[0], n[1], n[2], n[3], to, room));
-    case COMPACT:
-        return compacted(
-            ezk_compact(in->bytes, in->len, n[0], n[1], n[2], to, room, out[1].bytes, out[1].len));
-    case WRITE_OBJECT_NAME:
-        return answered(ezk_write_object_name(n[0], n[1], n[2], to, room));
-    case WRITE_FULL_NAME:
-        return answered(ezk_write_full_name(in->bytes, in->len, n[0], n[1], n[2], to, room));
-    case READ_OBJECT_NAME:
-        return object(ezk_read_object_name(in->bytes, in->len));
-    case READ_FULL_NAME:
-        return object(ezk_read_full_name(in->bytes, in->len));
-    case WRITE_REDIS_KEY:
-        return answered(ezk_write_redis_key(n[0], n[1], to, room));
-    case WRITE_TKV_KEY:
-        return answered(ezk_write_tkv_key(n[0], n[1], to, room));
-    case READ_REDIS_KEY:
-        return chunk_key(ezk_read_redis_key(in->bytes, in->len));
-    case READ_TKV_KEY:
-        return chunk_key(ezk_read_tkv_key(in->bytes, in->len));
-    default:
-        abort();
-    }
-}
-
-/* Both lists may be read in one memory: for some salts they are, where one begins the other. */
-static answer pass_two(const call *call, const lent *newer)
-{
-    lent older = lend(1, call->places / PLACES % PLACES, (uint8_t)(call->salt + 1), call->older,
-                      call->older_len);
-    const uint8_t *from = older.bytes, *to = newer->bytes;
-    int together = call->salt % 4 == 0;
-    if (together && begins(call))
-        from = to;
-    else if (together && starts_with(call->older, call->older_len, call->bytes, call->len))
-        to = from;
-    answer a = part(ezk_added(from, older.len, to, newer->len));
-    must(call, !changed(&older, 0), "a byte in or beside the older list changed");
-    give_back(&older);
-    return a;
-}
-
 static void check_refusal(const call *call, const answer *a)
 {
     uint64_t refusal = a->refusal;
@@ -177,9 +86,10 @@ static void check_refusal(const call *call, const answer *a)
          "the call has no such refusal");
     for (int i = 0; i < VALUES; i++)
         must(call, !refusal || !a->value[i], "a refused call gives values");
-    uint64_t place = 0;
-    uint64_t expected = expected_refusal(call, &place);
+    uint64_t place = 0, index = 0;
+    uint64_t expected = expected_refusal(call, &place, &index);
     must(call, a->place == place, "another place than expected");
+    must(call, a->index == index, "another index than expected");
     if (expected)
         must(call, refusal == expected, "another refusal than expected");
     else
@@ -203,8 +113,7 @@ answer make(const call *call, const size_t room[2])
         places /= PLACES;
         out[i] = lend(1 + i, places % PLACES, (uint8_t)(call->salt + 1 + i), NULL, room[i]);
     }
-    answer a = call->kind == ADDED ? pass_two(call, &in)
-                                   : pass(call->kind, call->number, &in, out);
+    answer a = pass(call, &in, out);
     const char *what = changed(&in, 0);
     must(call, !what, "a byte in or beside the input changed");
     for (unsigned i = 0; i < written; i++) {
@@ -226,6 +135,21 @@ static size_t plan_room(size_t records, uint64_t block_size)
     return EZK_PIECE * (blocks + 2 * (2 * records + 1));
 }
 
+uint64_t file_read(const call *call)
+{
+    uint64_t before = call->number[0] * EZK_CHUNK, all = call->lists * (uint64_t)EZK_CHUNK;
+    uint64_t start = call->number[3], count = call->number[4], end = call->number[1];
+    end = end < before ? 0 : end - before < all ? end - before : all;
+    return start >= end ? 0 : count < end - start ? count : end - start;
+}
+
+/* As many pieces as the header says. */
+static size_t file_room(const call *call, uint64_t block_size)
+{
+    size_t blocks = block_size < 65536 ? 0 : file_read(call) / block_size;
+    return EZK_PIECE * (4 * (call->len / EZK_RECORD) + 2 * call->lists + blocks);
+}
+
 answer make_ample(const call *call)
 {
     size_t records = call->len / EZK_RECORD;
@@ -235,9 +159,11 @@ answer make_ample(const call *call)
     if (call->kind == VIEW || call->kind == TIDY)
         room[0] = EZK_RECORD * (2 * records + 1);
     if (call->kind == READ_PLAN)
-        room[0] = plan_room(records, call->number[1]);
+        room[0] = plan_room(records, call->number[2]);
+    if (call->kind == FILE_PLAN)
+        room[0] = file_room(call, call->number[2]);
     if (call->kind == COMPACT)
-        room[0] = plan_room(records, call->number[0]);
+        room[0] = plan_room(records, call->number[1]);
     answer a = make(call, room);
     must(call, a.refusal != EZK_BUFFER, "an answer longer than any can be");
     return a;

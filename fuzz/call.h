@@ -14,6 +14,7 @@ enum kind {
     FIND,
     TIDY,
     READ_PLAN,
+    FILE_PLAN,
     COMPACT,
     ADDED,
     WRITE_OBJECT_NAME,
@@ -27,32 +28,35 @@ enum kind {
     KINDS
 };
 
-enum { REFUSALS = 17 }; /* with 0 for an answer; 14 and 15 are none */
+enum { REFUSALS = 22 }; /* with 0 for an answer; 14, 15 and 17 to 20 are none */
 
 /* The most records of a list, and of a tidied list. */
 enum { LIST_RECORDS = 2048, TIDIED_RECORDS = 2048 };
 
+enum { ARGUMENTS = 5, VALUES = 7 };
+
 /*
  * Numbers in the order in which the call takes them; bytes are its list, view, volume or text. Of
- * ADDED they are the newer list, and only it has an older one.
+ * ADDED they are the newer list, and only it has an older one; of FILE_PLAN the joined lists, and
+ * only it has their lengths.
  */
 typedef struct call {
     enum kind kind;
-    uint64_t number[4];
+    uint64_t number[ARGUMENTS];
     const uint8_t *bytes;
     size_t len;
     const uint8_t *older;
     size_t older_len;
+    const uint64_t *lengths;
+    size_t lists;
     uint8_t places; /* where inputs and outputs stand: 2 bits each */
     uint8_t salt;
 } call;
 
-enum { VALUES = 7 };
-
 /* value: count; or found, segment and its five numbers; or plan and list; or rewritten, offset,
  * length; or id, block, length, volume; or inode, index. */
 typedef struct answer {
-    uint64_t refusal, place, value[VALUES];
+    uint64_t refusal, place, index, value[VALUES];
     uint8_t *written[2]; /* copies of what was written, malloc'ed exactly */
 } answer;
 
@@ -64,6 +68,9 @@ unsigned outputs(enum kind kind);
 
 /* Whether the older list of ADDED is a beginning of the newer. */
 int begins(const call *call);
+
+/* Bytes of the read of FILE_PLAN, cut to the file's end and the last list's. */
+uint64_t file_read(const call *call);
 
 /* Makes the call with rooms of these lengths. Free the answer with done_with. */
 answer make(const call *call, const size_t room[2]);
@@ -85,8 +92,8 @@ void tally(enum kind kind, const answer *a);
 void print_tally(void);
 
 /* The first refusal in the header's order, without those that need the answer: 11, 12,
- * and 13 in reading. 0 if there is none. */
-uint64_t expected_refusal(const call *call, uint64_t *place);
+ * and 13 in reading. 0 if there is none. Place and index are set where it has one. */
+uint64_t expected_refusal(const call *call, uint64_t *place, uint64_t *index);
 
 /* What must hold of this kind of call, for an answer in ample room. */
 void keep_laws(const call *call, const answer *answer);

@@ -37,6 +37,7 @@ static void in_other_rooms(const call *call, const answer *a, const uint8_t *cho
     answer b = make(call, rooms);
     must(call, b.refusal == (fits ? a->refusal : EZK_BUFFER), "another refusal in another room");
     must(call, b.place == a->place, "another place in another room");
+    must(call, b.index == a->index, "another index in another room");
     if (fits)
         must(call, !memcmp(a->value, b.value, sizeof a->value), "other values in another room");
     for (unsigned i = 0; !b.refusal && i < outputs(call->kind); i++)
@@ -68,11 +69,15 @@ int LLVMFuzzerTestOneInput(const uint8_t *data, size_t size)
                  .len = len,
                  .places = head[STANDS],
                  .salt = head[SALT]};
-    for (int i = 0; i < 4; i++)
+    for (int i = 0; i < ARGUMENTS; i++)
         call.number[i] = be(head + NUMBERS + 8 * i, 8);
+    if (call.kind == FILE_PLAN)
+        call.lists = head[LISTS] % (LISTS_MAX + 1);
     give_shape(&call, bytes, head[SHAPE]);
     if (call.kind == ADDED)
         give_older(&call, bytes, head[SHAPE]);
+    if (call.kind == FILE_PLAN)
+        give_lengths(&call, bytes, head);
 
     answer a = make_ample(&call);
     keep_laws(&call, &a);

@@ -11,8 +11,11 @@ enum layout {
     STANDS,               /* where lent memory stands */
     SALT,                 /* what it holds, and its alignment */
     ROOMS,                /* two numbers of 2 bytes: how long the buffers are */
-    NUMBERS = ROOMS + 4,  /* four numbers of 8 bytes, big-endian */
-    BYTES = NUMBERS + 32, /* list (also of a view, or two of them), volume or text */
+    LISTS = ROOMS + 4,    /* how many lists, of a call on several */
+    SPOILED,              /* what is then wrong with their lengths */
+    SHARES,               /* a number of 8 bytes: what each of them has of the records */
+    NUMBERS = SHARES + 8, /* five numbers of 8 bytes, big-endian */
+    BYTES = NUMBERS + 40, /* list (also of a view, or several of them), volume or text */
 };
 
 /*

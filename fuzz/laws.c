@@ -15,7 +15,7 @@ int same(const answer *a, const uint8_t *bytes, size_t len)
 
 void keep_laws(const call *call, const answer *a)
 {
-    if (a->refusal && a->refusal != EZK_TIDIED_RECORDS)
+    if (a->refusal && a->refusal != EZK_TIDIED_RECORDS && call->kind != FILE_PLAN)
         return;
     switch (call->kind) {
     case CHECK:
@@ -29,6 +29,8 @@ void keep_laws(const call *call, const answer *a)
         return exchange_law(call, a);
     case READ_PLAN:
         return plan_law(call, a);
+    case FILE_PLAN:
+        return file_law(call, a);
     case COMPACT:
         return compact_law(call, a);
     case ADDED:

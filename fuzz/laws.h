@@ -9,6 +9,7 @@ void view_law(const call *call, const answer *a);
 void find_law(const call *call, const answer *a);
 void tidy_law(const call *call, const answer *a);
 void plan_law(const call *call, const answer *a);
+void file_law(const call *call, const answer *a);
 void compact_law(const call *call, const answer *a);
 void added_law(const call *call, const answer *a);
 void text_law(const call *call, const answer *a);

@@ -20,7 +20,7 @@ enum place {
     PLACES
 };
 
-enum { ARENAS = 3, LENT_MAX = 1 << 19 };
+enum { ARENAS = 3, LENT_MAX = 1 << 20 };
 
 typedef struct lent {
     uint8_t *bytes; /* what the call is given, good for len bytes */

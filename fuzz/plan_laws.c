@@ -3,18 +3,6 @@
 
 #include <string.h>
 
-typedef struct piece {
-    int object; /* else zeros */
-    uint64_t place, id, block, block_len, in_block, len;
-} piece;
-
-static piece piece_at(const uint8_t *plan, size_t place)
-{
-    const uint8_t *p = plan + place * EZK_PIECE;
-    return (piece){p[1] == 'B',   be(p + 2, 4),  be(p + 6, 8), be(p + 14, 4),
-                   be(p + 18, 4), be(p + 22, 4), be(p + 26, 4)};
-}
-
 static int one_piece(piece a, piece b)
 {
     if (!a.object || !b.object)
@@ -49,7 +37,7 @@ static void again_law(const call *call, const answer *a, const answer *view)
 /* Every piece against the runs of the view under it; zeros and holes can be several. */
 void plan_law(const call *call, const answer *a)
 {
-    uint64_t chunk_len = call->number[0], start = call->number[2], left = call->number[3];
+    uint64_t chunk_len = call->number[1], start = call->number[3], left = call->number[4];
     size_t pieces = a->value[0] / EZK_PIECE, run = 0;
     must(call, a->value[0] % EZK_PIECE == 0, "half a piece");
     left = start >= chunk_len ? 0 : left < chunk_len - start ? left : chunk_len - start;
@@ -63,6 +51,7 @@ void plan_law(const call *call, const answer *a)
         const uint8_t *bytes = a->written[0] + i * EZK_PIECE;
         piece p = piece_at(a->written[0], i);
         must(call, bytes[0] == 'R' && (p.object || bytes[1] == 'Z'), "no such mark");
+        must(call, p.index == call->number[0], "another index than the given one");
         must(call, p.len > 0 && p.place == place, "an empty piece, or a gap");
         must(call, p.len <= left - place, "a piece past the end of the read");
         must(call, p.object || !(p.id | p.block | p.block_len | p.in_block), "zeros of an object");
@@ -74,7 +63,7 @@ void plan_law(const call *call, const answer *a)
                 run++;
                 continue;
             }
-            must(call, reads(p, at - start - place, r, at - r.pos, call->number[1]),
+            must(call, reads(p, at - start - place, r, at - r.pos, call->number[2]),
                  "a piece unlike the view");
             at = r.pos + r.len;
         }
@@ -88,7 +77,7 @@ void plan_law(const call *call, const answer *a)
 
 void compact_law(const call *call, const answer *a)
 {
-    uint64_t block_size = call->number[0], k = call->number[1];
+    uint64_t index = call->number[0], block_size = call->number[1], k = call->number[2];
     size_t kept = call->len - k * EZK_RECORD;
     uint64_t first = UINT64_MAX, end = 0;
     for (size_t i = 0; i < k; i++) {
@@ -108,11 +97,11 @@ void compact_law(const call *call, const answer *a)
     }
     record r = record_at(a->written[1], 0);
     must(call,
-         r.pos == first && r.id == call->number[2] && r.size == end - first && r.off == 0 &&
+         r.pos == first && r.id == call->number[3] && r.size == end - first && r.off == 0 &&
              r.len == r.size,
          "another new record");
     struct call reading = other(call, READ_PLAN, call->bytes, k * EZK_RECORD);
-    memcpy(reading.number, (uint64_t[]){EZK_CHUNK, block_size, first, end - first},
+    memcpy(reading.number, (uint64_t[]){index, EZK_CHUNK, block_size, first, end - first},
            sizeof reading.number);
     answer plan = make_ample(&reading);
     must(call, same(&plan, a->written[0], a->value[0]), "the plan is not that of the read");

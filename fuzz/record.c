@@ -23,6 +23,13 @@ record record_at(const uint8_t *list, size_t place)
     return (record){be(r, 4), be(r + 4, 8), be(r + 12, 4), be(r + 16, 4), be(r + 20, 4)};
 }
 
+piece piece_at(const uint8_t *plan, size_t place)
+{
+    const uint8_t *p = plan + place * EZK_PIECE;
+    return (piece){p[1] == 'B',    be(p + 2, 4),  be(p + 6, 4),  be(p + 10, 8),
+                   be(p + 18, 4), be(p + 22, 4), be(p + 26, 4), be(p + 30, 4)};
+}
+
 uint8_t *put_record(uint8_t *to, record r)
 {
     to = put(put(to, r.pos, 4), r.id, 8);

@@ -63,10 +63,17 @@ static int block_size_allowed(uint64_t size)
     return size >= BLOCK_MIN && size <= BLOCK_MAX && (size & (size - 1)) == 0;
 }
 
-static uint64_t compact_refusal(const call *call)
+static uint64_t compact_refusal(const call *call, uint64_t *place)
 {
     size_t records = call->len / EZK_RECORD;
-    uint64_t k = call->number[1], new_id = call->number[2];
+    uint64_t k = call->number[2], new_id = call->number[3];
+    if (call->number[0] > UINT32_MAX)
+        return EZK_CHUNK_LISTS;
+    if (!block_size_allowed(call->number[1]))
+        return EZK_BLOCK_SIZE;
+    uint64_t refusal = list_refusal(call->bytes, call->len, place);
+    if (refusal)
+        return refusal;
     if (k > records)
         return EZK_FIRST_RECORDS;
     if (new_id == 0)
@@ -75,6 +82,45 @@ static uint64_t compact_refusal(const call *call)
         if (record_at(call->bytes, i).id == new_id)
             return EZK_NEW_ID;
     return 0;
+}
+
+static int wrong_chunks(const call *call)
+{
+    uint64_t left = call->len;
+    if (call->lists < 1 || call->lists > EZK_LISTS)
+        return 1;
+    for (size_t k = 0; k < call->lists; left -= call->lengths[k++])
+        if (call->lengths[k] > left)
+            return 1;
+    return left != 0 || call->number[0] > UINT32_MAX - (call->lists - 1);
+}
+
+static uint64_t file_refusal(const call *call, uint64_t *place, uint64_t *index)
+{
+    const uint8_t *list = call->bytes;
+    if (wrong_chunks(call))
+        return EZK_CHUNK_LISTS;
+    if (!block_size_allowed(call->number[2]))
+        return EZK_BLOCK_SIZE;
+    for (size_t k = 0; k < call->lists; list += call->lengths[k++]) {
+        uint64_t refusal = list_refusal(list, call->lengths[k], place);
+        if (refusal) {
+            *index = call->number[0] + k;
+            return refusal;
+        }
+    }
+    return 0;
+}
+
+static uint64_t read_refusal(const call *call, uint64_t *place)
+{
+    if (call->number[1] > EZK_CHUNK)
+        return EZK_CHUNK_LENGTH;
+    if (call->number[0] > UINT32_MAX)
+        return EZK_CHUNK_LISTS;
+    if (!block_size_allowed(call->number[2]))
+        return EZK_BLOCK_SIZE;
+    return list_refusal(call->bytes, call->len, place);
 }
 
 static int volume_allowed(const uint8_t *volume, size_t len)
@@ -89,28 +135,26 @@ static int volume_allowed(const uint8_t *volume, size_t len)
     return 1;
 }
 
-static int object_allowed(const uint64_t number[4])
+static int object_allowed(const uint64_t *number)
 {
     return number[0] >= 1 && number[1] < BLOCKS && number[2] >= 1 && number[2] <= BLOCK_MAX;
 }
 
-uint64_t expected_refusal(const call *call, uint64_t *place)
+uint64_t expected_refusal(const call *call, uint64_t *place, uint64_t *index)
 {
     const uint64_t *number = call->number;
     uint64_t refusal = 0;
     switch (call->kind) {
     case VIEW:
-    case READ_PLAN:
         if (number[0] > EZK_CHUNK)
             return EZK_CHUNK_LENGTH;
-        if (call->kind == READ_PLAN && !block_size_allowed(number[1]))
-            return EZK_BLOCK_SIZE;
         return list_refusal(call->bytes, call->len, place);
+    case READ_PLAN:
+        return read_refusal(call, place);
+    case FILE_PLAN:
+        return file_refusal(call, place, index);
     case COMPACT:
-        if (!block_size_allowed(number[0]))
-            return EZK_BLOCK_SIZE;
-        refusal = list_refusal(call->bytes, call->len, place);
-        return refusal ? refusal : compact_refusal(call);
+        return compact_refusal(call, place);
     case ADDED:
         refusal = list_refusal(call->older, call->older_len, place);
         return refusal ? refusal : list_refusal(call->bytes, call->len, place);

@@ -15,9 +15,15 @@ enum { MIB = 1 << 20, BLOCK = 4 * MIB };
 static const char *folder;
 static unsigned seeds;
 
+/* How many lists are joined, and what is done to their lengths. */
+typedef struct joined {
+    unsigned lists, spoiled;
+    uint64_t shares;
+} joined;
+
 /* One input; where its memory stands and how long its rooms are changes from seed to seed. */
-static void seed(enum kind kind, unsigned shape, const uint64_t number[4], const void *bytes,
-                 size_t len)
+static void seed_joined(enum kind kind, unsigned shape, joined joined, const uint64_t *number,
+                        const void *bytes, size_t len)
 {
     static uint8_t input[BYTES + LIST_MAX];
     char path[4096];
@@ -26,7 +32,10 @@ static void seed(enum kind kind, unsigned shape, const uint64_t number[4], const
     input[STANDS] = (uint8_t)(seeds * 27);
     input[SALT] = (uint8_t)seeds;
     put(put(input + ROOMS, seeds, 2), seeds / 2, 2);
-    for (int i = 0; i < 4; i++)
+    input[LISTS] = (uint8_t)joined.lists;
+    input[SPOILED] = (uint8_t)joined.spoiled;
+    put(input + SHARES, joined.shares, 8);
+    for (int i = 0; i < ARGUMENTS; i++)
         put(input + NUMBERS + 8 * i, number[i], 8);
     memcpy(input + BYTES, bytes, len);
     snprintf(path, sizeof path, "%s/%03u", folder, seeds++);
@@ -37,7 +46,26 @@ static void seed(enum kind kind, unsigned shape, const uint64_t number[4], const
     }
 }
 
-#define WITH(...) ((const uint64_t[4]){__VA_ARGS__})
+static void seed(enum kind kind, unsigned shape, const uint64_t *number, const void *bytes,
+                 size_t len)
+{
+    seed_joined(kind, shape, (joined){0}, number, bytes, len);
+}
+
+#define WITH(...) ((const uint64_t[ARGUMENTS]){__VA_ARGS__})
+
+/* One list of chunk 1; or the records divided into three lists, or four. */
+static void file_seeds(unsigned shape, const uint8_t *list, size_t len)
+{
+    static uint8_t bytes[8 + LIST_MAX];
+    const uint64_t *number = WITH(1, 4ull * EZK_CHUNK, BLOCK, 0, 2 * EZK_CHUNK);
+    memcpy(put(bytes, len, 8), list, len);
+    if (shape % SHAPES == AS_IS)
+        seed_joined(FILE_PLAN, shape, (joined){1, 0, 0}, number, bytes, 8 + len);
+    for (unsigned spoiled = 0; shape % SHAPES != AS_IS && spoiled < 5; spoiled++)
+        seed_joined(FILE_PLAN, shape, (joined){3 + spoiled % 2, spoiled, 0x1321}, number, list,
+                    len);
+}
 
 static void list_seeds(unsigned shape, const uint8_t *list, size_t len)
 {
@@ -45,9 +73,10 @@ static void list_seeds(unsigned shape, const uint8_t *list, size_t len)
     seed(VIEW, shape, WITH(EZK_CHUNK), list, len);
     seed(FIND, shape, WITH(8 * 3, 5, 20, 3), list, len);
     seed(TIDY, shape, WITH(0), list, len);
-    seed(READ_PLAN, shape, WITH(EZK_CHUNK, BLOCK, 0, EZK_CHUNK), list, len);
-    seed(COMPACT, shape, WITH(BLOCK, 1, 1000), list, len);
+    seed(READ_PLAN, shape, WITH(7, EZK_CHUNK, BLOCK, 0, EZK_CHUNK), list, len);
+    seed(COMPACT, shape, WITH(7, BLOCK, 1, 1000), list, len);
     seed(ADDED, shape, WITH(EZK_RECORD), list, len);
+    file_seeds(shape, list, len);
 }
 
 static size_t list_of(uint8_t *list, const record *records, size_t count)
@@ -88,6 +117,59 @@ static void single_records(void)
         list_seeds(AS_IS, list, list_of(list, &records[i], 1));
 }
 
+static void plans(const uint8_t *list, size_t len)
+{
+    const uint64_t high = UINT32_MAX;
+    seed(READ_PLAN, AS_IS, WITH(0, EZK_CHUNK, BLOCK, 15728640, 2097152), list, len);
+    seed(READ_PLAN, AS_IS, WITH(high, EZK_CHUNK, 65536, 10 * MIB, 8 * MIB), list, len);
+    seed(READ_PLAN, AS_IS, WITH(1, EZK_CHUNK, 16 * MIB, UINT64_MAX, UINT64_MAX), list, len);
+    seed(READ_PLAN, AS_IS, WITH(1, EZK_CHUNK, 65537, 0, 1), list, len);            /* 8 */
+    seed(READ_PLAN, AS_IS, WITH(high + 1, EZK_CHUNK + 1, BLOCK, 0, 1), list, len); /* 7 */
+    seed(READ_PLAN, AS_IS, WITH(high + 1, EZK_CHUNK, 65537, 0, 0), list, len);     /* 21 */
+    seed(COMPACT, AS_IS, WITH(high + 1, 32768, 1, 1000), list, len);               /* 21 */
+    seed(COMPACT, AS_IS, WITH(1, 32768, 1, 1000), list, len);                      /* 8 */
+    seed(COMPACT, AS_IS, WITH(1, BLOCK, 1, 12), list, len);                        /* 9 */
+    seed(COMPACT, AS_IS, WITH(1, BLOCK, 4, 1000), list, len);                      /* 10 */
+    for (uint64_t k = 0; k <= 3; k++)
+        seed(COMPACT, AS_IS, WITH(high, 65536, k, UINT64_MAX), list, len);
+}
+
+/* The records as two lists, the first of them with so many bytes. */
+static void two_lists(uint64_t first_len, const uint64_t *number, const record *records,
+                      size_t count)
+{
+    uint8_t bytes[2 * 8 + 4 * EZK_RECORD], *lists = put(bytes, first_len, 8);
+    size_t len = list_of(put(lists, count * EZK_RECORD - first_len, 8), records, count);
+    seed_joined(FILE_PLAN, AS_IS, (joined){2, 0, 0}, number, bytes, 16 + len);
+}
+
+/* A read over the edge of chunks 2 and 3, behind which the same object goes on. */
+static void files(void)
+{
+    const record last = {EZK_CHUNK - 8, 7, 16, 0, 8}, first = {0, 7, 16, 8, 8};
+    const record sound[] = {last, first, {8, 0, 0, 0, 4}};
+    const record bad[] = {last, first, {0, 7, 17, 0, 8}};
+    const record worse[] = {last, {0, 7, 16, 9, 8}, last};
+    const uint64_t *number = WITH(2, 4ull * EZK_CHUNK, BLOCK, EZK_CHUNK - 10, 30);
+    const uint64_t high = UINT32_MAX, ends[] = {0, EZK_RECORD, 3 * EZK_RECORD, EZK_RECORD - 1};
+    static const uint8_t zeros[8 * LISTS_MAX];
+    for (size_t i = 0; i < sizeof ends / sizeof *ends; i++)
+        two_lists(ends[i], number, sound, 3);
+    two_lists(EZK_RECORD, number, bad, 3);   /* 16 in the second list */
+    two_lists(EZK_RECORD, number, worse, 3); /* 6 in the second list */
+    two_lists(1ull << 63, number, sound, 3); /* 21 */
+    two_lists(EZK_RECORD, WITH(high - 1, UINT64_MAX, BLOCK, 0, UINT64_MAX), sound, 3);
+    two_lists(EZK_RECORD, WITH(high, UINT64_MAX, BLOCK, 0, 1), sound, 3);  /* 21 */
+    two_lists(EZK_RECORD, WITH(high, UINT64_MAX, 65537, 0, 1), sound, 3);  /* 21 */
+    two_lists(EZK_RECORD, WITH(2, 0, 65537, 0, 1), sound, 3);              /* 8 */
+    two_lists(EZK_RECORD, WITH(2, 2ull * EZK_CHUNK, BLOCK, 0, 1), sound, 3);
+    two_lists(EZK_RECORD, WITH(2, 3ull * EZK_CHUNK + 5, 65536, EZK_CHUNK - 3, 99), sound, 3);
+    two_lists(EZK_RECORD, WITH(0, UINT64_MAX, BLOCK, UINT64_MAX, UINT64_MAX), sound, 3);
+    for (unsigned lists = 0; lists <= LISTS_MAX; lists++) /* 21 for none, and above 16 */
+        seed_joined(FILE_PLAN, AS_IS, (joined){lists, 0, 0},
+                    WITH(0, UINT64_MAX, 65536, 1, UINT64_MAX), zeros, 8 * lists);
+}
+
 static void small_lists(void)
 {
     const record hidden[] = {{0, 7, 20, 0, 20}, {4, 0, 0, 0, 8}};
@@ -109,17 +191,8 @@ static void small_lists(void)
     size_t len = list_of(list, three, 3);
     list_seeds(AS_IS, list, len);
     list_seeds(SOUND, list, len);
-    seed(READ_PLAN, AS_IS, WITH(EZK_CHUNK, BLOCK, 15728640, 2097152), list, len);
-    seed(READ_PLAN, AS_IS, WITH(EZK_CHUNK, 65536, 10 * MIB, 8 * MIB), list, len);
-    seed(READ_PLAN, AS_IS, WITH(EZK_CHUNK, 16 * MIB, UINT64_MAX, UINT64_MAX), list, len);
-    seed(READ_PLAN, AS_IS, WITH(EZK_CHUNK, 65537, 0, 1), list, len);     /* 8 */
-    seed(READ_PLAN, AS_IS, WITH(EZK_CHUNK + 1, BLOCK, 0, 1), list, len); /* 7 */
-    seed(VIEW, AS_IS, WITH(EZK_CHUNK + 1), list, len);                   /* 7 */
-    seed(COMPACT, AS_IS, WITH(32768, 1, 1000), list, len);               /* 8 */
-    seed(COMPACT, AS_IS, WITH(BLOCK, 1, 12), list, len);                 /* 9 */
-    seed(COMPACT, AS_IS, WITH(BLOCK, 4, 1000), list, len);               /* 10 */
-    for (uint64_t k = 0; k <= 3; k++)
-        seed(COMPACT, AS_IS, WITH(65536, k, UINT64_MAX), list, len);
+    seed(VIEW, AS_IS, WITH(EZK_CHUNK + 1), list, len); /* 7 */
+    plans(list, len);
 }
 
 /* As they are: a view, a row that is none, and one whose last segment ends past 2^32. */
@@ -208,7 +281,7 @@ static void names(void)
     }
     seed(READ_OBJECT_NAME, SOUND, WITH(1234567, 2, 100), "", 0);
     seed(READ_FULL_NAME, SOUND, WITH(1234567, 2, 100), "", 0);
-    const uint64_t numbers[][4] = {
+    const uint64_t numbers[][ARGUMENTS] = {
         {1234567, 2, 100}, {3, 1, MIB}, {UINT64_MAX, 1023, 16 * MIB}, {0, 1024, 16 * MIB + 1}};
     char volume[64];
     memset(volume, 'z', sizeof volume);
@@ -231,7 +304,7 @@ static void keys(void)
     seed(READ_TKV_KEY, SOUND, WITH(100, 2), "", 0);
     for (size_t len = 13; len <= 15; len++)
         seed(READ_TKV_KEY, AS_IS, WITH(0), "A\4\0\0\0\0\0\0\0C\0\0\0\2", len);
-    const uint64_t numbers[][4] = {
+    const uint64_t numbers[][ARGUMENTS] = {
         {100, 0}, {4, 2}, {0, 0}, {UINT64_MAX, UINT32_MAX}, {0, 1ull << 32}};
     for (size_t i = 0; i < sizeof numbers / sizeof *numbers; i++) {
         seed(WRITE_REDIS_KEY, AS_IS, numbers[i], "", 0);
@@ -249,6 +322,7 @@ int main(int argc, char **argv)
     lengths();
     single_records();
     small_lists();
+    files();
     views();
     pairs();
     combs();

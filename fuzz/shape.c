@@ -9,7 +9,7 @@
  * go on from there by two positions at a time, below UNDER_ALL. Their slices have one size, but
  * for a record now and then.
  */
-enum { NEAR = 64, IDS = 4, OTHERWISE = 64, UNDER_ALL = 2 * (NEAR + RECORDS_MAX) };
+enum { IDS = 4, OTHERWISE = 64, UNDER_ALL = 2 * (NEAR + RECORDS_MAX) };
 
 static record sound(record r, enum shape shape, size_t turn)
 {
@@ -48,10 +48,16 @@ static void shape_list(call *call, uint8_t *bytes, enum shape shape, size_t many
     call->len = (size_t)(to - bytes);
 }
 
-/* 2^15 to 2^25: one power too many below, and one above. */
-static uint64_t block_size(uint64_t number)
+uint64_t shaped_block_size(uint64_t number)
 {
     return 1ull << (15 + number % 11);
+}
+
+uint64_t shaped_index(uint64_t number)
+{
+    uint64_t choice = number % 8;
+    number /= 8;
+    return choice == 0 ? number : choice < 4 ? (1ull << 32) + 3 - number % 24 : number % 8;
 }
 
 /* Into the range that the call allows, or one above it; near the records of small lists. */
@@ -68,15 +74,17 @@ static void shape_numbers(call *call, enum shape shape)
         n[1] %= end + 2;
         return;
     case READ_PLAN:
-        n[0] %= end + 2;
-        n[1] = block_size(n[1]);
-        n[2] %= end + 2;
+        n[0] = shaped_index(n[0]);
+        n[1] %= end + 2;
+        n[2] = shaped_block_size(n[2]);
         n[3] %= end + 2;
+        n[4] %= end + 2;
         return;
     case COMPACT:
-        n[0] = block_size(n[0]);
-        n[1] %= call->len / EZK_RECORD + 2;
-        n[2] = shape == SOUND ? n[2] : n[2] % (4 * IDS);
+        n[0] = shaped_index(n[0]);
+        n[1] = shaped_block_size(n[1]);
+        n[2] %= call->len / EZK_RECORD + 2;
+        n[3] = shape == SOUND ? n[3] : n[3] % (4 * IDS);
         return;
     case WRITE_OBJECT_NAME:
     case WRITE_FULL_NAME:
@@ -171,6 +179,7 @@ void give_shape(call *call, uint8_t *bytes, uint8_t choice)
     case FIND:
     case TIDY:
     case READ_PLAN:
+    case FILE_PLAN:
     case COMPACT:
     case ADDED:
         shape_list(call, bytes, shape, choice / SHAPES * RECORDS_MAX / (255 / SHAPES));
