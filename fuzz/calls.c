@@ -72,7 +72,7 @@ int LLVMFuzzerTestOneInput(const uint8_t *data, size_t size)
     for (int i = 0; i < ARGUMENTS; i++)
         call.number[i] = be(head + NUMBERS + 8 * i, 8);
     if (call.kind == FILE_PLAN)
-        call.lists = head[LISTS] % (LISTS_MAX + 1);
+        call.lists = head[JOINED] % (LISTS_MAX + 1);
     give_shape(&call, bytes, head[SHAPE]);
     if (call.kind == ADDED)
         give_older(&call, bytes, head[SHAPE]);

@@ -11,7 +11,7 @@ enum layout {
     STANDS,               /* where lent memory stands */
     SALT,                 /* what it holds, and its alignment */
     ROOMS,                /* two numbers of 2 bytes: how long the buffers are */
-    LISTS = ROOMS + 4,    /* how many lists, of a call on several */
+    JOINED = ROOMS + 4,    /* how many lists, of a call on several */
     SPOILED,              /* what is then wrong with their lengths */
     SHARES,               /* a number of 8 bytes: what each of them has of the records */
     NUMBERS = SHARES + 8, /* five numbers of 8 bytes, big-endian */

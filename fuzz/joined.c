@@ -5,6 +5,12 @@
 
 #include "input.h"
 
+/*
+ * How lists are spoiled, in most cases not at all: one length too large; an edge inside a record;
+ * lengths whose sum is right but for 2^64; or bytes of the lists themselves.
+ */
+enum { LONGER = 1, MOVED, TURNED, BYTES_SPOILED, WAYS = 16 };
+
 /* As they are, the lengths stand in front of the lists, 8 bytes each. */
 static void take_lengths(call *call, uint8_t *bytes, uint64_t *lengths)
 {
@@ -47,17 +53,16 @@ static void move_to_end(const call *call, uint8_t *bytes)
         }
 }
 
-/* One length too large; an edge inside a record; or a sum that is right but for 2^64. */
 static void spoil_lengths(const call *call, uint64_t *lengths, unsigned choice)
 {
     if (!call->lists)
         return;
-    size_t k = choice / 8 % call->lists, next = (k + 1) % call->lists;
-    uint64_t more = choice % 8 == 3 ? 1ull << 63 : 1;
-    if (choice % 8 < 1 || choice % 8 > 3)
+    size_t k = choice / WAYS % call->lists, next = (k + 1) % call->lists;
+    uint64_t more = choice % WAYS == TURNED ? 1ull << 63 : 1;
+    if (choice % WAYS < LONGER || choice % WAYS > TURNED)
         return;
     lengths[k] += more;
-    if (choice % 8 != 1)
+    if (choice % WAYS != LONGER)
         lengths[next] -= more;
 }
 
@@ -94,7 +99,7 @@ void give_lengths(call *call, uint8_t *bytes, const uint8_t *head)
         take_lengths(call, bytes, lengths);
         return;
     }
-    if (head[SPOILED] % 8 == 4)
+    if (head[SPOILED] % WAYS == BYTES_SPOILED)
         spoil_records(bytes, &call->len, shares);
     share_out(call, lengths, shares);
     if (shape == SMALL)

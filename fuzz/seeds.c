@@ -32,7 +32,7 @@ static void seed_joined(enum kind kind, unsigned shape, joined joined, const uin
     input[STANDS] = (uint8_t)(seeds * 27);
     input[SALT] = (uint8_t)seeds;
     put(put(input + ROOMS, seeds, 2), seeds / 2, 2);
-    input[LISTS] = (uint8_t)joined.lists;
+    input[JOINED] = (uint8_t)joined.lists;
     input[SPOILED] = (uint8_t)joined.spoiled;
     put(input + SHARES, joined.shares, 8);
     for (int i = 0; i < ARGUMENTS; i++)

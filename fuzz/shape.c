@@ -57,7 +57,7 @@ uint64_t shaped_index(uint64_t number)
 {
     uint64_t choice = number % 8;
     number /= 8;
-    return choice == 0 ? number : choice < 4 ? (1ull << 32) + 3 - number % 24 : number % 8;
+    return choice == 0 ? number : choice < 3 ? (1ull << 32) + 3 - number % 24 : number % 8;
 }
 
 /* Into the range that the call allows, or one above it; near the records of small lists. */
