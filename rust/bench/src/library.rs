@@ -1,7 +1,7 @@
 //! The calls of an archive, as safe functions. Two archives can be timed in one run: the present
 //! one, and another that was built before and whose calls bear other names.
 
-use ezumokarin::sys::{self, ezk_answer, ezk_compacted};
+use ezumokarin::sys::{self, ezk_answer};
 
 use crate::record::{Record, CHUNK};
 use crate::yard::compact::Order;
@@ -10,66 +10,30 @@ use crate::yard::seek::Found;
 type Out = *mut u8;
 type In = *const u8;
 
-/// Its calls that resolve a list.
+/// Its calls that resolve a list and write records. Plans are those of the present archive alone:
+/// one that was built before may write other pieces.
 #[derive(Clone, Copy)]
 pub struct Library {
     view: unsafe extern "C" fn(In, usize, u64, Out, usize) -> ezk_answer,
     tidy: unsafe extern "C" fn(In, usize, Out, usize) -> ezk_answer,
-    read_plan: unsafe extern "C" fn(In, usize, u64, u64, u64, u64, Out, usize) -> ezk_answer,
-    compact: Compact,
 }
 
-type Compact =
-    unsafe extern "C" fn(In, usize, u64, u64, u64, Out, usize, Out, usize) -> ezk_compacted;
-
-pub const NOW: Library = Library {
-    view: sys::ezk_view,
-    tidy: sys::ezk_tidy,
-    read_plan: sys::ezk_read_plan,
-    compact: sys::ezk_compact,
-};
+pub const NOW: Library = Library { view: sys::ezk_view, tidy: sys::ezk_tidy };
 
 #[cfg(not(before))]
 pub const BEFORE: Option<Library> = None;
 
 #[cfg(before)]
-pub const BEFORE: Option<Library> = Some(Library {
-    view: before::before_ezk_view,
-    tidy: before::before_ezk_tidy,
-    read_plan: before::before_ezk_read_plan,
-    compact: before::before_ezk_compact,
-});
+pub const BEFORE: Option<Library> =
+    Some(Library { view: before::before_ezk_view, tidy: before::before_ezk_tidy });
 
 #[cfg(before)]
 mod before {
-    use super::{ezk_answer, ezk_compacted, In, Out};
+    use super::{ezk_answer, In, Out};
 
     extern "C" {
         pub fn before_ezk_view(l: In, n: usize, c: u64, o: Out, m: usize) -> ezk_answer;
         pub fn before_ezk_tidy(l: In, n: usize, o: Out, m: usize) -> ezk_answer;
-        #[rustfmt::skip]
-        pub fn before_ezk_read_plan(
-            l: In,
-            n: usize,
-            c: u64,
-            b: u64,
-            s: u64,
-            r: u64,
-            o: Out,
-            m: usize,
-        ) -> ezk_answer;
-        #[rustfmt::skip]
-        pub fn before_ezk_compact(
-            l: In,
-            n: usize,
-            b: u64,
-            k: u64,
-            i: u64,
-            p: Out,
-            m: usize,
-            o: Out,
-            q: usize,
-        ) -> ezk_compacted;
     }
 }
 
@@ -87,29 +51,28 @@ impl Library {
         let (o, m) = (out.as_mut_ptr(), out.len());
         counted(unsafe { (self.tidy)(list.as_ptr(), list.len(), o, m) })
     }
+}
 
-    /// The plan of the whole chunk.
-    #[inline]
-    pub fn read_plan(&self, list: &[u8], block_size: u32, out: &mut [u8]) -> Option<usize> {
-        let (l, n, o, m) = (list.as_ptr(), list.len(), out.as_mut_ptr(), out.len());
-        let chunk = u64::from(CHUNK);
-        counted(unsafe { (self.read_plan)(l, n, chunk, block_size.into(), 0, chunk, o, m) })
-    }
+/// The plan of the whole chunk.
+#[inline]
+pub fn read_plan(list: &[u8], index: u32, block_size: u32, out: &mut [u8]) -> Option<usize> {
+    let (l, n, o, m) = (list.as_ptr(), list.len(), out.as_mut_ptr(), out.len());
+    let (i, b, chunk) = (index.into(), block_size.into(), u64::from(CHUNK));
+    counted(unsafe { sys::ezk_read_plan(l, n, i, chunk, b, 0, chunk, o, m) })
+}
 
-    #[inline]
-    pub fn compact(
-        &self,
-        list: &[u8],
-        order: Order,
-        plan: &mut [u8],
-        new_list: &mut [u8],
-    ) -> Option<(usize, usize)> {
-        let (l, n, p, m) = (list.as_ptr(), list.len(), plan.as_mut_ptr(), plan.len());
-        let (o, q) = (new_list.as_mut_ptr(), new_list.len());
-        let (b, k) = (order.block_size.into(), order.k as u64);
-        let answer = unsafe { (self.compact)(l, n, b, k, order.new_id, p, m, o, q) };
-        (answer.refusal == 0).then_some((answer.plan as usize, answer.list as usize))
-    }
+#[inline]
+pub fn compact(
+    list: &[u8],
+    order: Order,
+    plan: &mut [u8],
+    new_list: &mut [u8],
+) -> Option<(usize, usize)> {
+    let (l, n, p, m) = (list.as_ptr(), list.len(), plan.as_mut_ptr(), plan.len());
+    let (o, q) = (new_list.as_mut_ptr(), new_list.len());
+    let (i, b, k) = (order.index.into(), order.block_size.into(), order.k as u64);
+    let answer = unsafe { sys::ezk_compact(l, n, i, b, k, order.new_id, p, m, o, q) };
+    (answer.refusal == 0).then_some((answer.plan as usize, answer.list as usize))
 }
 
 fn counted(answer: ezk_answer) -> Option<usize> {

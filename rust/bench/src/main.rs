@@ -5,6 +5,7 @@
 //! many rounds in which the programs take turns, so that ratios hold on a busy machine too.
 
 mod clock;
+mod files;
 mod history;
 mod library;
 mod measure;

@@ -1,7 +1,7 @@
 //! Records as bytes, at fixed widths, and the numbers of the format.
 
 pub const RECORD: usize = 24;
-pub const PIECE: usize = 30;
+pub const PIECE: usize = 34;
 pub const CHUNK: u32 = 67_108_864;
 pub const LIST_RECORDS: usize = 2_048;
 pub const TIDIED_RECORDS: usize = 2_048;

@@ -1,5 +1,6 @@
 //! The programs that the archive is timed against must be right themselves.
 
+mod files;
 mod pairs;
 
 use rng::Rng;
@@ -14,6 +15,7 @@ use crate::yard::view::{tidy, view};
 use crate::yard::{most_pieces, plain, seek, texts, tree, walk, Room};
 
 const BLOCKS: [u32; 2] = [65_536, 4_194_304];
+const INDEX: u32 = 4_294_967_295;
 const MARK: u8 = 0xaa;
 
 /// Few records in little room, about the edge of a block.
@@ -112,11 +114,12 @@ fn plans_are_those_of_the_second_program() {
     let chunk = u64::from(CHUNK);
     for list in lists() {
         for size in BLOCKS {
-            let expected = second::read_plan_bytes(&list, chunk, size.into(), 0, chunk);
-            assert_eq!(Ok(filled(|out| read_plan(&list, size, &mut room, out))), expected);
+            let expected =
+                second::read_plan_bytes(&list, INDEX.into(), chunk, size.into(), 0, chunk);
+            assert_eq!(Ok(filled(|out| read_plan(&list, INDEX, size, &mut room, out))), expected);
         }
     }
-    assert_eq!(read_plan(&[], 65_537, &mut room, &mut []), None);
+    assert_eq!(read_plan(&[], INDEX, 65_537, &mut room, &mut []), None);
 }
 
 #[test]
@@ -128,8 +131,9 @@ fn compactions_are_those_of_the_second_program() {
         let some = rng.below(records as u64 + 1) as usize;
         let k = rng.pick(&[records, some]);
         for block_size in BLOCKS {
-            let order = Order { block_size, k, new_id: 9 };
-            let (plan, new) = second::compact_bytes(&list, block_size.into(), k as u64, 9).unwrap();
+            let order = Order { index: INDEX, block_size, k, new_id: 9 };
+            let (plan, new) =
+                second::compact_bytes(&list, INDEX.into(), block_size.into(), k as u64, 9).unwrap();
             let mut other = vec![MARK; new.len()];
             let by_rust = filled(|out| {
                 let (pieces, bytes) = compact(&list, order, &mut room, out, &mut other)?;
@@ -138,7 +142,7 @@ fn compactions_are_those_of_the_second_program() {
             });
             assert_eq!((by_rust, other), (plan, new));
         }
-        let order = Order { block_size: BLOCKS[0], k: records + 1, new_id: 9 };
+        let order = Order { index: INDEX, block_size: BLOCKS[0], k: records + 1, new_id: 9 };
         assert_eq!(compact(&list, order, &mut room, &mut [], &mut []), None);
     }
 }

@@ -3,7 +3,8 @@
 use crate::report::spread::{select, Spread};
 use crate::report::{number, table as table_of, thousands};
 use crate::timed::{
-    added, comparison, Row, Who, ADDED, BEGINS, COMPACT, PLAN, SIZES, SMALL_PLAN, TIDY, VIEW,
+    added, comparison, files, Row, Who, ADDED, BEGINS, COMPACT, FILES, PLAN, SIZES, SMALL_PLAN,
+    TIDY, VIEW,
 };
 
 struct Limit {
@@ -54,6 +55,9 @@ fn limits(rows: &[Row]) -> Vec<Limit> {
     ];
     limits.extend([VIEW, TIDY, PLAN, SMALL_PLAN, COMPACT].map(|call| growth(rows, call)));
     limits.extend([VIEW, TIDY, PLAN, SMALL_PLAN, COMPACT].map(|call| fits(rows, call)));
+    let singles = (Who::Singles, "16 read plans");
+    limits.extend(FILES.map(|call| over(rows, call, &[files::RECORDS], singles, 1.1)));
+    limits.extend(FILES.map(|call| file_fits(rows, call)));
     let checks = (Who::Checks, "two checks");
     limits.extend(ADDED.map(|call| over(rows, call, &added::LENGTHS, checks, 1.2)));
     limits.push(over(rows, BEGINS, &comparison::LENGTHS, (Who::Best, "`starts_with`"), 4.0));
@@ -73,6 +77,17 @@ fn fits(rows: &[Row], call: &str) -> Limit {
     Limit {
         what: format!("{call}: buffer that just fits / room to spare"),
         most: 2.0,
+        noise: 1.1,
+        worst,
+    }
+}
+
+/// A plan of several chunks into a buffer that just fits: it is planned twice.
+fn file_fits(rows: &[Row], call: &str) -> Limit {
+    let worst = worst(rows, call, &[files::RECORDS], |row| row.ratio(Who::Fits, Who::Singles));
+    Limit {
+        what: format!("{call}: buffer that just fits / 16 read plans"),
+        most: 2.1,
         noise: 1.1,
         worst,
     }

@@ -1,6 +1,7 @@
 //! What was measured, as tables that a reader can take in, and a picture.
 
 mod calls;
+mod files;
 mod history;
 mod limits;
 mod others;
@@ -17,6 +18,7 @@ pub fn files(rows: &[Row]) -> Vec<(&'static str, String)> {
         ("shapes.md", calls::shapes(rows)),
         ("calls.md", calls::others(rows)),
         ("fits.md", calls::fits(rows)),
+        ("files.md", files::plans(rows)),
         ("find.md", others::find(rows)),
         ("check.md", others::check(rows)),
         ("added.md", history::added(rows)),

@@ -1,6 +1,6 @@
 //! The calls that resolve a list, in ten shapes.
 
-use crate::library::{Library, BEFORE, NOW};
+use crate::library::{self, Library, BEFORE, NOW};
 use crate::measure::{program, Program};
 use crate::record::RECORD;
 use crate::shapes::{Shape, SHAPES};
@@ -21,6 +21,8 @@ enum Call {
     Compact,
 }
 
+/// The chunk's.
+const INDEX: u32 = 7;
 const BLOCK: u32 = 4_194_304;
 const SMALL_BLOCK: u32 = 65_536;
 const CALLS: [(Call, &str); 5] = [
@@ -88,7 +90,7 @@ fn fitting<'a>(mut write: Writer) -> Program<'a, Input> {
 
 fn writers(call: Call) -> Vec<(Who, Writer)> {
     let mut writers = vec![(Who::Now, by_library(NOW, call)), (Who::Best, by_best(call))];
-    if let Some(library) = BEFORE {
+    if let (Some(library), Call::View | Call::Tidy) = (BEFORE, call) {
         writers.push((Who::Before, by_library(library, call)));
     }
     if let Call::View = call {
@@ -111,16 +113,18 @@ fn first(count: Option<usize>) -> Counts {
 }
 
 fn all(list: &[u8]) -> Order {
-    Order { block_size: BLOCK, k: list.len() / RECORD, new_id: 77 }
+    Order { index: INDEX, block_size: BLOCK, k: list.len() / RECORD, new_id: 77 }
 }
 
 fn by_library(library: Library, call: Call) -> Writer {
     match call {
         Call::View => Box::new(move |list, out, _| first(library.view(list, out))),
         Call::Tidy => Box::new(move |list, out, _| first(library.tidy(list, out))),
-        Call::Plan(size) => Box::new(move |list, out, _| first(library.read_plan(list, size, out))),
+        Call::Plan(size) => {
+            Box::new(move |list, out, _| first(library::read_plan(list, INDEX, size, out)))
+        }
         Call::Compact => {
-            Box::new(move |list, out, other| library.compact(list, all(list), out, other))
+            Box::new(move |list, out, other| library::compact(list, all(list), out, other))
         }
     }
 }
@@ -131,7 +135,7 @@ fn by_best(call: Call) -> Writer {
         Call::View => by_rust(view),
         Call::Tidy => by_rust(tidy),
         Call::Plan(size) => {
-            Box::new(move |list, out, _| first(read_plan(list, size, &mut room, out)))
+            Box::new(move |list, out, _| first(read_plan(list, INDEX, size, &mut room, out)))
         }
         Call::Compact => {
             Box::new(move |list, out, other| compact(list, all(list), &mut room, out, other))

@@ -4,6 +4,7 @@ pub mod added;
 mod calls;
 mod check;
 pub mod comparison;
+pub mod files;
 mod row;
 mod same;
 mod seek;
@@ -21,6 +22,9 @@ pub const TIDY: &str = "tidy";
 pub const PLAN: &str = "read plan, blocks of 4 MiB";
 pub const SMALL_PLAN: &str = "read plan, blocks of 64 KiB";
 pub const COMPACT: &str = "compaction";
+/// `ezk_file_plan`, by block size.
+pub const FILES: [&str; 2] =
+    ["plan of 16 chunks, blocks of 4 MiB", "plan of 16 chunks, blocks of 64 KiB"];
 pub const FIND: &str = "find";
 pub const CHECK: &str = "check";
 /// `ezk_added`, by how the newer list came from the older one.
@@ -37,6 +41,7 @@ pub const KEYS: &str = "chunk keys";
 /// All rows, or what two programs differ in.
 pub fn all() -> Result<Vec<Row>, String> {
     let mut rows = calls::rows()?;
+    rows.extend(files::rows()?);
     rows.extend(seek::rows()?);
     rows.extend(check::rows()?);
     rows.extend(added::rows()?);

@@ -23,6 +23,8 @@ pub enum Who {
     Six,
     /// The checks of an older and a newer list alone.
     Checks,
+    /// The read plans of single chunks, one after the other.
+    Singles,
 }
 
 pub struct Row {

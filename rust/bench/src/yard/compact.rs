@@ -9,6 +9,7 @@ use crate::yard::Room;
 /// How the records are compacted.
 #[derive(Clone, Copy)]
 pub struct Order {
+    pub index: u32,
     pub block_size: u32,
     pub k: usize,
     pub new_id: u64,
@@ -23,7 +24,7 @@ pub fn compact(
     plan: &mut [u8],
     new_list: &mut [u8],
 ) -> Option<(usize, usize)> {
-    let Order { block_size, k, new_id } = order;
+    let Order { index, block_size, k, new_id } = order;
     if !allowed(block_size) {
         return None;
     }
@@ -42,7 +43,7 @@ pub fn compact(
     // Both buffers must be long enough before either is written.
     let direct = most_pieces(k, block_size) * PIECE <= plan.len();
     let target = if direct { &mut *plan } else { &mut aside[..] };
-    let pieces = write(spans, records, block_size, range, target);
+    let pieces = write(spans, records, (index, block_size), range, target);
     if !direct {
         plan.get_mut(..pieces)?.copy_from_slice(&aside[..pieces]);
     }

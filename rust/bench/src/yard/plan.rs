@@ -9,7 +9,13 @@ use crate::yard::Room;
 
 /// The plan of the whole chunk.
 #[inline(never)]
-pub fn read_plan(list: &[u8], block_size: u32, room: &mut Room, out: &mut [u8]) -> Option<usize> {
+pub fn read_plan(
+    list: &[u8],
+    index: u32,
+    block_size: u32,
+    room: &mut Room,
+    out: &mut [u8],
+) -> Option<usize> {
     if !allowed(block_size) {
         return None;
     }
@@ -18,7 +24,7 @@ pub fn read_plan(list: &[u8], block_size: u32, room: &mut Room, out: &mut [u8]) 
     spans.take(records);
     let most = most_pieces(records.len(), block_size) * PIECE;
     let range = (0, CHUNK);
-    written(out, aside, most, |out| write(spans, records, block_size, range, out))
+    written(out, aside, most, |out| write(spans, records, (index, block_size), range, out))
 }
 
 pub fn allowed(block_size: u32) -> bool {
@@ -30,12 +36,12 @@ pub fn allowed(block_size: u32) -> bool {
 pub fn write(
     spans: &Spans,
     records: &[RecordBytes],
-    block_size: u32,
+    (index, block_size): (u32, u32),
     (from, to): (u32, u32),
     out: &mut [u8],
 ) -> usize {
     let (out, _) = out.as_chunks_mut::<PIECE>();
-    let mut pen = Pen { out, count: 0, from, block_size };
+    let mut pen = Pen { out, count: 0, index, from, block_size };
     let mut runs = Runs::new(records, Zeros::All, from, |pos, end, top| {
         pen.run(record(records, top), pos, end)
     });
@@ -47,6 +53,7 @@ pub fn write(
 struct Pen<'a> {
     out: &'a mut [[u8; PIECE]],
     count: usize,
+    index: u32,
     from: u32,
     block_size: u32,
 }
@@ -73,8 +80,9 @@ impl Pen<'_> {
         let out = &mut self.out[self.count];
         *out = [0; PIECE];
         out[0..2].copy_from_slice(b"RZ");
-        out[2..6].copy_from_slice(&(pos - self.from).to_be_bytes());
-        out[26..30].copy_from_slice(&len.to_be_bytes());
+        out[2..6].copy_from_slice(&self.index.to_be_bytes());
+        out[6..10].copy_from_slice(&(pos - self.from).to_be_bytes());
+        out[30..34].copy_from_slice(&len.to_be_bytes());
         self.count += 1;
     }
 
@@ -85,12 +93,13 @@ impl Pen<'_> {
         let length = self.block_size.min(four(bytes, 12) - (off - at));
         let out = &mut self.out[self.count];
         out[0..2].copy_from_slice(b"RB");
-        out[2..6].copy_from_slice(&(pos - self.from).to_be_bytes());
-        out[6..14].copy_from_slice(&raw_id(bytes).to_ne_bytes());
-        out[14..18].copy_from_slice(&block.to_be_bytes());
-        out[18..22].copy_from_slice(&length.to_be_bytes());
-        out[22..26].copy_from_slice(&at.to_be_bytes());
-        out[26..30].copy_from_slice(&len.to_be_bytes());
+        out[2..6].copy_from_slice(&self.index.to_be_bytes());
+        out[6..10].copy_from_slice(&(pos - self.from).to_be_bytes());
+        out[10..18].copy_from_slice(&raw_id(bytes).to_ne_bytes());
+        out[18..22].copy_from_slice(&block.to_be_bytes());
+        out[22..26].copy_from_slice(&length.to_be_bytes());
+        out[26..30].copy_from_slice(&at.to_be_bytes());
+        out[30..34].copy_from_slice(&len.to_be_bytes());
         self.count += 1;
     }
 }
