@@ -5,7 +5,7 @@ use native.Mathlib.Nat.{sub-self}
 use mathlib.Core.Path.{_≡_, refl}
 use mathlib.Core.Bool.{Bool, true, false}
 use mathlib.Core.List.{List}
-use Rattle.outcomes.specs.Outcome.{Outcome, refused, done}
+use Rattle.outcomes.specs.Outcome.{OutcomeOf, Outcome, refused, done}
 use Rattle.outcomes.specs.Answers.{answer, answerOf}
 use Rattle.slices.specs.Refusals.{checked}
 use lib.ListN.{length, take, drop, length-drop}
@@ -13,6 +13,10 @@ use lib.Seq.{take-all}
 use Rattle.codec.proofs.Laws.All.{rest-whole}
 use Rattle.compaction.specs.Calls.{Both, compactAnswer}
 use Rattle.ezumokarin.specs.Compact.{wroteBoth, plainCompacted}
+use Rattle.joined.specs.declared.ListRefusal.{ListRefusal}
+use Rattle.files.specs.Calls.{wroteMany}
+use Rattle.files.specs.declared.FileAnswer.the-variants as file
+use Rattle.ezumokarin.specs.Files.{wroteFile, plainFile}
 use Rattle.history.specs.History.{historyOutcome, told, partFor, addedPart}
 use Rattle.history.proofs.Laws.Calls.{no-shorter}
 use Rattle.history.specs.declared.WasRewritten.the-variants.{No}
@@ -34,6 +38,13 @@ pub plain-wrote : (o : Outcome (List ℕ)) → plainAnswer (answer o) ≡ wrote 
 unfolding plainAnswer answerOf wrote
 plain-wrote (refused r) = refl
 plain-wrote (done bs) = refl
+
+-- ---- plans across a file
+
+pub plain-file : (o : OutcomeOf ListRefusal (List ℕ)) → plainFile (answerOf file.Refused wroteMany o) ≡ wroteFile o
+unfolding plainFile answerOf wroteFile
+plain-file (refused r) = refl
+plain-file (done bs) = refl
 
 -- ---- names and keys
 

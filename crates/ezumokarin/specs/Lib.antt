@@ -1,5 +1,6 @@
 pub mod Plain
 pub mod Names
 pub mod Compact
+pub mod Files
 pub mod Seeks
 pub mod Changes

@@ -1,11 +1,13 @@
 // Answers as structs of numbers.
 use crate::Chunk;
 use crate::Compact;
+use crate::Filed;
 use crate::Found;
 use crate::Object;
 use crate::Part;
 use crate::Plain;
 use compaction::Compacted;
+use files::FileAnswer;
 use history::WasRewritten;
 use keys::ChunkKey;
 use names::ObjectName;
@@ -16,6 +18,7 @@ use slices::Record;
 ghost use mathlib.Core.Path.{_≡_};
 ghost use Rattle.ezumokarin.specs.Changes.{plainPart};
 ghost use Rattle.ezumokarin.specs.Compact.{plainCompacted};
+ghost use Rattle.ezumokarin.specs.Files.{plainFile};
 ghost use Rattle.ezumokarin.specs.Names.{plainObject, plainChunk};
 ghost use Rattle.ezumokarin.specs.Plain.{plainChecked, plainAnswer};
 ghost use Rattle.ezumokarin.specs.Seeks.{noSegment, aSegment, plainSought, plainFound};
@@ -49,6 +52,25 @@ pub(crate) fn of_answer(a: Answer) -> Plain
         Answer::Refused(r) => Plain {
             refusal: r.number as u64,
             place: r.place as u64,
+            count: 0,
+        },
+    }
+}
+
+pub(crate) fn of_file(a: FileAnswer) -> Filed
+    ensures { λ r. ⌜ r ≡ plainFile a ⌝ }
+{
+    match a {
+        FileAnswer::Wrote(n) => Filed {
+            refusal: 0,
+            place: 0,
+            index: 0,
+            count: n as u64,
+        },
+        FileAnswer::Refused(r) => Filed {
+            refusal: r.number as u64,
+            place: r.place as u64,
+            index: r.index,
             count: 0,
         },
     }

@@ -3,6 +3,7 @@
 mod answers;
 mod changes;
 mod compacting;
+mod filing;
 mod lists;
 mod naming;
 mod reading;
@@ -13,6 +14,15 @@ mod seeks;
 pub struct Plain {
     pub refusal: u64,
     pub place: u64,
+    pub count: u64,
+}
+
+// What a plan across a file answers: `index` is the chunk index of the refused list.
+#[repr(C)]
+pub struct Filed {
+    pub refusal: u64,
+    pub place: u64,
+    pub index: u64,
     pub count: u64,
 }
 

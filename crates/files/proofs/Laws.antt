@@ -3,6 +3,8 @@ pub mod Chunks
 pub mod Runs
 pub mod Joins
 pub mod Bytes
+pub mod Edges
 pub mod Few
 pub mod Walk
 pub mod Calls
+pub mod Answered

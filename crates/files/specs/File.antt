@@ -1,6 +1,7 @@
 -- A read across the chunks of a file (paper 02, L9): `ls` are the lists of the chunks from the index `first` on, and positions are counted from the
 -- first chunk's beginning. No limit on the number of lists, nor on their lengths. Assumes nothing.
 use Prim.Native.Nat.{ℕ, suc, _+_, _-_, _*_, _/_, _%_, min}
+use mathlib.Core.Path.{_≡_}
 use mathlib.Core.List.{List, [], _∷_, _++_, map}
 use lib.ListN.{length, getD}
 use Rattle.slices.specs.Limits.{chunk}
@@ -39,6 +40,11 @@ filePieces first B ls start n = runs nextSite (siteFrom first B ls start) 0 n
 -- the plan of a read of `count` bytes from `start`, "cut to the file's end and the last list's"
 unfoldable pub filePlan : (first B : ℕ) → List (List Record) → (fileLen start count : ℕ) → List (Run Site)
 filePlan first B ls fileLen start count = filePieces first B ls start (cutTo (fileEnd first fileLen (length ls)) start count)
+
+-- "No piece crosses a chunk's edge": the first and the last byte of a run are of the chunk whose index it has
+pub record InOneChunk (first start : ℕ) (r : Run Site) : Type 0 where
+  pub from : r .first .index ≡ first + (start + r .start) / chunk
+  pub to : r .first .index ≡ first + (start + (r .start + r .len - 1)) / chunk
 
 -- ---- the chunks' plans, one after the other
 

@@ -9,12 +9,17 @@ use mathlib.Core.Bool.{false, _&&_}
 use mathlib.Core.List.{List, [], _∷_, _++_, map, append-nil}
 use lib.Dec.{eqb}
 use lib.ListN.{length, getD}
+use lib.Seq.{take-all}
 use borrow.Author.Tests.{ne-eqb}
 use Rattle.slices.specs.Limits.{chunk}
+use Rattle.slices.specs.Record.{records}
+use Rattle.joined.specs.Lists.{parts}
+use Rattle.files.specs.Calls.{listsIn, fileBytes}
 use Rattle.runs.specs.Runs.{Run, runs, Parts}
 use Rattle.runs.proofs.Laws.Runs.{runs-append}
 use Rattle.plans.specs.Location.{Site, nextSite, nextLocation, locationAt}
-use Rattle.plans.specs.Piece.{inChunk}
+use Rattle.plans.specs.Calls.{planBytes}
+use Rattle.plans.specs.Piece.{encodePieces, inChunk, chunkBytes}
 use Rattle.plans.specs.Plan.{cutTo, locationFrom, pieces, readPlan}
 use Rattle.files.specs.File.{listOf, siteAt, siteFrom, fileEnd, filePieces, filePlan, partFrom, partEnd, chunkPlan, chunkPlans}
 use Rattle.files.proofs.Laws.Runs.{runs-in-chunk}
@@ -163,6 +168,14 @@ module _ (first B : ℕ) (ls : List (List Record)) (fileLen start count : ℕ) w
       let e : start + places - start ≡ places = omega arith in
       rw e at (file-pieces-join first B ls start (start + places) within)
 
+-- each of them is the read plan of its chunk, cut to where the read ends there
+pub chunk-plan-reads : (first B from end k : ℕ) (rs : List Record)
+    → chunkPlan first B from end k rs ≡ map (inChunk (first + k) (k * chunk - from)) (readPlan B rs (partEnd end k) (partFrom from k) end)
+unfolding chunkPlan readPlan cutTo partEnd
+chunk-plan-reads first B from end k rs =
+    let e : min end (min (end - k * chunk) chunk - partFrom from k) ≡ min (end - k * chunk) chunk - partFrom from k = omega arith in
+    rw e
+
 one-within : (first fileLen start count : ℕ) → cutTo (fileEnd first fileLen 1) start count ≤ chunk - start
 unfolding cutTo fileEnd
 one-within first fileLen start count = omega arith
@@ -183,3 +196,8 @@ one-list-plan first B rs fileLen start count =
     let f : start - 0 * chunk ≡ start = omega arith in
     file-plan-joins first B (rs ∷ []) fileLen start count
     ∙ rw (one-part start n chunk (one-within first fileLen start count), i, b, f) (append-nil (map (inChunk first 0) (pieces B rs start n)))
+
+-- the same as bytes: those of `read_plan`, for the length that the file has of the chunk
+pub one-list-bytes : (bs : List ℕ) (first fileLen B start count : ℕ) → fileBytes bs (length bs ∷ []) first fileLen B start count ≡ planBytes bs first (fileEnd first fileLen 1) B start count
+unfolding fileBytes listsIn parts planBytes chunkBytes
+one-list-bytes bs first fileLen B start count = rw (take-all (length bs) bs (omega arith)) (ap encodePieces (one-list-plan first B (records bs) fileLen start count))

@@ -70,7 +70,7 @@ unfolding listsRows firstOf
 accepts-passes i [] o h = refl
 accepts-passes i (l ∷ ls) o h = list-passes i l ls o (h .0) ∙ accepts-passes (suc i) ls o (h .1)
 
-none-lists : (i : ℕ) (ls : List (List ℕ)) → NoneHolds (listsRows i ls) → All Accepts ls
+pub none-lists : (i : ℕ) (ls : List (List ℕ)) → NoneHolds (listsRows i ls) → All Accepts ls
 unfolding listsRows
 none-lists i [] h = tt
 none-lists i (l ∷ ls) h = (
