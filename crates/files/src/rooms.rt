@@ -7,11 +7,11 @@ use outcomes::refusals;
 use plans::PIECE;
 use slices::RECORD;
 ghost use mathlib.Core.Path.{_≡_};
-ghost use mathlib.Core.Bool.{true};
+ghost use mathlib.Core.Bool.{true, cond};
 ghost use Prim.Native.Nat.{_+_, _-_, _*_, _/_, _^_, _<_, _≤_};
-ghost use lib.Dec.{leb};
 ghost use lib.ListN.{length};
 ghost use Rattle.codec.specs.All.{All};
+ghost use Rattle.codec.specs.Splice.{splice};
 ghost use Rattle.blocks.specs.Blocks.{blockAllowed};
 ghost use Rattle.slices.specs.Accepts.{Accepts};
 ghost use Rattle.slices.specs.Limits.{recordSize};
@@ -20,7 +20,7 @@ ghost use Rattle.plans.specs.Inner.{Shifts};
 ghost use Rattle.plans.specs.Piece.{pieceSize};
 ghost use Rattle.files.specs.Limits.{maxLists};
 ghost use Rattle.files.specs.Calls.{AnswersFile, deliveredFile};
-ghost use Rattle.files.specs.Inner.{Room, bytesOf};
+ghost use Rattle.files.specs.Inner.{bytesOf};
 
 // Whether a buffer of so many bytes has room for all pieces that can come: four a record, two a list, and one a block.
 fn roomy(bytes: usize, lists: usize, from: u32, end: u32, bits: u32, room: usize) -> bool
@@ -30,8 +30,9 @@ fn roomy(bytes: usize, lists: usize, from: u32, end: u32, bits: u32, room: usize
     4 * (bytes / RECORD) + 2 * lists + ((end - from) >> bits) as usize <= room / PIECE
 }
 
-// Whether the buffer has room for the pieces of the positions from `from` up to `end`. They are counted only where they may have none.
-fn has_room(
+// Writes the pieces of the positions from `from` up to `end` to the front of a buffer that has room for them, or only counts their bytes, with room
+// to resolve every list that is accepted; how many bytes they have. It has several callers, and so a frame of its own.
+fn in_room(
     lists: &[u8],
     lengths: &[u64],
     first: u32,
@@ -39,24 +40,22 @@ fn has_room(
     end: u32,
     block: u32,
     bits: u32,
+    write: bool,
     out: &mut [u8],
-    marks: &mut [u32],
-    tops: &mut [u16],
-    pos: &mut [u64],
-    ends: &mut [u32],
-    order: &mut [u16],
-    spare: &mut [u16],
-) -> bool
+) -> usize
     requires { ⌜ (total (now lengths) ≡ length (now lists)) × All Accepts (parts (now lengths) (now lists)) ⌝ }
-    requires { ⌜ (length (now lengths) ≤ maxLists) × (first + length (now lengths) ≤ 2 ^ 32) × (from ≤ end) × Shifts block bits ⌝ }
-    requires { ⌜ Room (now marks) (now tops) (now pos) (now ends) (now order) (now spare) ⌝ }
-    ensures { λ r. ⌜ r ≡ leb (length (bytesOf first block from end 0 (parts (now (lengths .entry)) (now (lists .entry))))) (length (now (out .entry))) ⌝ }
-    ensures { λ _. ⌜ now (out .exit) ≡ now (out .entry) ⌝ }
+    requires { ⌜ (length (now lengths) ≤ maxLists) × (first + length (now lengths) ≤ 2 ^ 32) × Shifts block bits ⌝ }
+    requires { ⌜ (write ≡ true → length (bytesOf first block from end 0 (parts (now lengths) (now lists))) ≤ length (now out)) ⌝ }
+    ensures { λ r. ⌜ r ≡ length (bytesOf first block from end 0 (parts (now (lengths .entry)) (now (lists .entry)))) ⌝ }
+    ensures { λ _. ⌜ now (out .exit) ≡ cond write (splice (now (out .entry)) 0 (bytesOf first block from end 0 (parts (now (lengths .entry)) (now (lists .entry))))) (now (out .entry)) ⌝ }
 {
-    if roomy(lists.len(), lengths.len(), from, end, bits, out.len()) {
-        return true;
-    }
-    let need = walk::walk_lists(
+    let mut marks = [0u32; 4098];
+    let mut tops = [0u16; 4097];
+    let mut pos = [0u64; 2048];
+    let mut ends = [0u32; 2048];
+    let mut order = [0u16; 2048];
+    let mut spare = [0u16; 2048];
+    walk::walk_lists(
         lists,
         lengths,
         first,
@@ -64,79 +63,18 @@ fn has_room(
         end,
         block,
         bits,
-        false,
+        write,
         out,
-        marks,
-        tops,
-        pos,
-        ends,
-        order,
-        spare,
-    );
-    need <= out.len()
+        &mut marks,
+        &mut tops,
+        &mut pos,
+        &mut ends,
+        &mut order,
+        &mut spare,
+    )
 }
 
-// Answers with these pieces.
-fn answer_in(
-    lists: &[u8],
-    lengths: &[u64],
-    first: u32,
-    from: u32,
-    end: u32,
-    block: u32,
-    out: &mut [u8],
-    marks: &mut [u32],
-    tops: &mut [u16],
-    pos: &mut [u64],
-    ends: &mut [u32],
-    order: &mut [u16],
-    spare: &mut [u16],
-) -> FileAnswer
-    requires { ⌜ (total (now lengths) ≡ length (now lists)) × All Accepts (parts (now lengths) (now lists)) ⌝ }
-    requires { ⌜ (length (now lengths) ≤ maxLists) × (first + length (now lengths) ≤ 2 ^ 32) × (from ≤ end) ⌝ }
-    requires { ⌜ blockAllowed block ≡ true ⌝ }
-    requires { ⌜ Room (now marks) (now tops) (now pos) (now ends) (now order) (now spare) ⌝ }
-    ensures { λ r. ⌜ AnswersFile (deliveredFile (bytesOf first block from end 0 (parts (now (lengths .entry)) (now (lists .entry)))) (length (now (out .entry)))) (now (out .entry)) r (now (out .exit)) ⌝ }
-{
-    let bits = bits_of(block);
-    if has_room(
-        lists,
-        lengths,
-        first,
-        from,
-        end,
-        block,
-        bits,
-        out,
-        marks,
-        tops,
-        pos,
-        ends,
-        order,
-        spare,
-    ) {
-        return FileAnswer::Wrote(walk::walk_lists(
-            lists,
-            lengths,
-            first,
-            from,
-            end,
-            block,
-            bits,
-            true,
-            out,
-            marks,
-            tops,
-            pos,
-            ends,
-            order,
-            spare,
-        ));
-    }
-    refused(refusals::SHORT_BUFFER)
-}
-
-// The same, in room for all lists that are accepted.
+// Answers with these pieces. They are counted first only where they may have no room.
 pub(crate) fn answer(
     lists: &[u8],
     lengths: &[u64],
@@ -151,25 +89,13 @@ pub(crate) fn answer(
     requires { ⌜ blockAllowed block ≡ true ⌝ }
     ensures { λ r. ⌜ AnswersFile (deliveredFile (bytesOf first block from end 0 (parts (now (lengths .entry)) (now (lists .entry)))) (length (now (out .entry)))) (now (out .entry)) r (now (out .exit)) ⌝ }
 {
-    let mut marks = [0u32; 4098];
-    let mut tops = [0u16; 4097];
-    let mut pos = [0u64; 2048];
-    let mut ends = [0u32; 2048];
-    let mut order = [0u16; 2048];
-    let mut spare = [0u16; 2048];
-    answer_in(
-        lists,
-        lengths,
-        first,
-        from,
-        end,
-        block,
-        out,
-        &mut marks,
-        &mut tops,
-        &mut pos,
-        &mut ends,
-        &mut order,
-        &mut spare,
-    )
+    let bits = bits_of(block);
+    if roomy(lists.len(), lengths.len(), from, end, bits, out.len()) {
+        return FileAnswer::Wrote(in_room(lists, lengths, first, from, end, block, bits, true, out));
+    }
+    let need = in_room(lists, lengths, first, from, end, block, bits, false, out);
+    if out.len() < need {
+        return refused(refusals::SHORT_BUFFER);
+    }
+    FileAnswer::Wrote(in_room(lists, lengths, first, from, end, block, bits, true, out))
 }

@@ -6,7 +6,6 @@ use native.Mathlib.Numerals.{add-one}
 use mathlib.Core.Path.{_≡_, refl, sym, ap, _∙_}
 use mathlib.Core.Bool.{Bool, true, false, cond}
 use mathlib.Core.List.{List, [], _∷_, _++_, map, flatMap}
-use lib.Dec.{leb}
 use lib.ListN.{length, take, drop, getD, length-map, drop-of-length-le}
 use lib.Seq.{drop-drop}
 use Rattle.codec.specs.All.{All}
@@ -138,10 +137,6 @@ module _ (first B from end : ℕ) where
 
     pub walked-low : (write : Bool) (out₀ out : List ℕ) (at to k : ℕ) → Walked ns bs write out₀ out at to k → length ns ≤ maxLists → end < 2 ^ 32 → to ≤ 2 ^ 40
     walked-low write out₀ out at to k w h l = omega (arith, w .puts .sum, bytes-few h l)
-
--- counted bytes, and a buffer that stayed as it was
-pub counted-room : (need n : ℕ) (out' out : List ℕ) → need ≡ n → out' ≡ out → leb need (length out') ≡ leb n (length out)
-counted-room need n out' out e same = rw (e, same)
 
 -- rooms that are as long as before
 pub room-kept : {marks tops pos ends order spare : List ℕ} → Room marks tops pos ends order spare → {marks' tops' pos' ends' order' spare' : List ℕ}

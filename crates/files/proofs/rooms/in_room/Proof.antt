@@ -1,0 +1,47 @@
+-- `files::rooms::in_room` meets its contract: its arrays are room for every list that is accepted. Assumes nothing.
+use borrow.Author.Needs.{needs}
+use Rattle.files.proofs.rooms.in_room.Statement.{statement}
+use Rattle.files.proofs.rooms.in_room.Tie as tie
+
+slice-aggregate-walk-lists : tie.Need-slice-aggregate-walk-lists
+slice-aggregate-walk-lists c = search needs
+
+slice-aggregate-walk-lists-2 : tie.Need-slice-aggregate-walk-lists-2
+slice-aggregate-walk-lists-2 c = search needs
+
+slice-aggregate-walk-lists-3 : tie.Need-slice-aggregate-walk-lists-3
+slice-aggregate-walk-lists-3 c = search needs
+
+slice-aggregate-walk-lists-4 : tie.Need-slice-aggregate-walk-lists-4
+slice-aggregate-walk-lists-4 c = search needs
+
+slice-aggregate-walk-lists-5 : tie.Need-slice-aggregate-walk-lists-5
+slice-aggregate-walk-lists-5 c = search needs
+
+slice-aggregate-walk-lists-6 : tie.Need-slice-aggregate-walk-lists-6
+slice-aggregate-walk-lists-6 c = search needs
+
+walk-lists-requires : tie.Need-walk-lists-requires
+walk-lists-requires c κs =
+    let p = c .before .before .before .before .before .before .before .before .before .before .pre in
+    (p .0, (p .1 .0, (record { marks-fit = search needs; tops-fit = search needs; pos-fit = search needs; ends-fit = search needs; order-fit = search needs; spare-fit = search needs }, p .1 .1)))
+
+same-length : tie.Need-same-length
+same-length c = search needs
+
+returns : tie.Need-returns
+returns c = search needs
+
+pub in-room-spec : {M : Type 1} → statement M
+in-room-spec =
+    tie.close
+    (tie.spec
+    slice-aggregate-walk-lists
+    slice-aggregate-walk-lists-2
+    slice-aggregate-walk-lists-3
+    slice-aggregate-walk-lists-4
+    slice-aggregate-walk-lists-5
+    slice-aggregate-walk-lists-6
+    walk-lists-requires
+    same-length
+    returns)
