@@ -78,6 +78,11 @@ RZ 3 5242880 0 0 0 0 262144
 RB 3 5505024 22 0 2097152 1310720 262144
 refused 5 at 1 in the list of chunk 3
 TEXT
+# README shows these lines too.
+if sed 's/^/    /' "$work/file.expected" | grep -vxFf "$here/../README.md"; then
+    echo "README.md lacks these lines of examples/file.c" >&2
+    exit 1
+fi
 
 # The lines that the page shows, by hand from the requirements.
 sed -n 's/^    //p' "$here/../docs/VIEW-AGAIN.md" > "$work/again.expected"

@@ -12,7 +12,7 @@ use crate::{sys, Refusal};
 pub struct ListRefusal {
     /// Why there is no plan; its place is counted in the refused list.
     pub refusal: Refusal,
-    /// The chunk index of the refused list; none where no list is at fault.
+    /// The chunk index of the refused list, for refusals 1 to 6 and 16; none where no list is at fault.
     pub index: Option<u64>,
 }
 

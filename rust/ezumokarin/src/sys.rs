@@ -49,7 +49,7 @@ pub struct ezk_file_answer {
     pub refusal: u64,
     /// The place of the refused record in its list, for refusals 3 to 6 and 16.
     pub place: u64,
-    /// The chunk index of the refused list; 0 where no list is at fault.
+    /// The chunk index of the refused list, for refusals 1 to 6 and 16; else 0.
     pub index: u64,
     /// Bytes written.
     pub count: u64,

@@ -3,9 +3,8 @@
 use Prim.Native.Nat.{ℕ, suc, _+_, _-_, _*_, _^_, _≤_, _<_, zero-le}
 use native.Mathlib.Omega.{arith}
 use native.Mathlib.Nat.{zero-add}
-use mathlib.Core.Path.{_≡_, refl, sym, ap, _∙_}
-use mathlib.Core.Bool.{true, _&&_}
-use mathlib.Core.List.{List, [], _∷_, _++_, map}
+use mathlib.Core.Path.{_≡_, ap}
+use mathlib.Core.List.{List, [], _∷_, map}
 use lib.ListN.{length, take, drop, length-map}
 use lib.Dec.{eqb}
 use Rattle.codec.specs.All.{All, Bytes}
@@ -19,9 +18,9 @@ use Rattle.slices.proofs.Laws.Firsts.{records-fit}
 use Rattle.runs.specs.Runs.{Run, Valid, IsRun}
 use Rattle.runs.proofs.Laws.Runs.{runs-valid, valid-unique}
 use Rattle.plans.specs.Location.{Site, nextSite, nextLocation}
-use Rattle.plans.specs.Piece.{inStore, storeRuns, encodePieces, piecesIn, RunFits}
+use Rattle.plans.specs.Piece.{inStore, storeRuns, piecesIn, RunFits}
 use Rattle.plans.specs.Plan.{cutTo}
-use Rattle.plans.specs.Store.{Store, fetch, reads, fetched}
+use Rattle.plans.specs.Store.{Store, reads, fetched}
 use Rattle.plans.proofs.Laws.Bytes.{Divides, fetched-divided}
 use Rattle.plans.proofs.Laws.Fits.{pieces-fit}
 use Rattle.plans.proofs.Laws.Pieces.{pieces-back}
@@ -32,7 +31,6 @@ use Rattle.files.specs.Calls.{listsIn, fileBytes}
 use Rattle.files.specs.File.{siteAt, siteFrom, fileReads, fileEnd, filePieces, filePlan, partFrom, partEnd, chunkPlan, chunkPlans}
 use Rattle.files.proofs.Laws.Joins.{file-plan-joins}
 use Rattle.slices.specs.declared.Record.{Record}
-use Rattle.plans.specs.declared.Location.{Location}
 
 -- ---- the division
 

@@ -1,16 +1,15 @@
 -- What `file_plan` answers, case by case, and exactly when each refusal is given, with the index of the list at fault. Assumes nothing.
-use Prim.Native.Nat.{ℕ, _-_, _*_, _<_, _≤_}
+use Prim.Native.Nat.{ℕ, _-_, _<_, _≤_}
 use native.Mathlib.Omega.{arith}
 use native.Mathlib.Decide.{decLt}
-use mathlib.Core.Path.{_≡_, sym, ap, _∙_}
-use mathlib.Core.Bool.{Bool, true, false, not}
+use mathlib.Core.Path.{_≡_, ap, _∙_}
+use mathlib.Core.Bool.{true, false}
 use mathlib.Core.Logic.{_↔_}
 use mathlib.Core.List.{List, [], _∷_, _++_, map}
 use lib.ListN.{length, length-map}
 use borrow.Author.Tests.{lt-ltb, le-ltb}
 use Rattle.codec.specs.All.{All}
 use Rattle.slices.specs.Accepts.{Accepts}
-use Rattle.slices.specs.Limits.{chunk}
 use Rattle.slices.specs.Record.{records}
 use Rattle.outcomes.specs.Numbers as number
 use Rattle.outcomes.specs.Outcome.{OutcomeOf, refused, done, firstOf, refusal, tooShort, NoneHolds, Given}

@@ -1,15 +1,13 @@
 -- No piece of a file's plan crosses a chunk's edge, and each has the index of its chunk. Assumes nothing.
-use Prim.Native.Nat.{ℕ, zero, suc, _+_, _-_, _/_, _<_, _≤_}
+use Prim.Native.Nat.{ℕ, zero, suc, _+_, _-_, _<_}
 use native.Mathlib.Omega.{arith}
 use mathlib.Core.Path.{_≡_, sym, ap, _∙_}
-use mathlib.Core.Bool.{_&&_}
 use mathlib.Core.List.{List, [], _∷_}
 use lib.Dec.{eqb}
 use lib.ListN.{length}
 use borrow.Author.Tests.{eqb-true}
 use Rattle.codec.specs.All.{All}
 use Rattle.codec.proofs.Laws.Bools.{and-both}
-use Rattle.slices.specs.Limits.{chunk}
 use Rattle.runs.specs.Runs.{Run, Valid, IsRun}
 use Rattle.plans.specs.Location.{Site, nextSite, nextLocation}
 use Rattle.plans.specs.Plan.{cutTo}

@@ -2,20 +2,18 @@
 use Prim.Native.Nat.{ℕ, suc, _+_, _-_, _*_, _/_, _<_, _≤_}
 use native.Mathlib.Omega.{arith}
 use native.Mathlib.Decide.{decLe}
-use mathlib.Core.Path.{_≡_, ap, _∙_}
-use mathlib.Core.List.{List, [], _∷_, _++_, map}
+use mathlib.Core.Path.{_≡_}
+use mathlib.Core.List.{List, [], _∷_, map}
 use lib.ListN.{length, take, drop, length-append, length-map, length-take, length-drop}
 use Rattle.codec.specs.All.{All}
 use Rattle.slices.specs.Accepts.{Accepts}
-use Rattle.slices.specs.Limits.{chunk, recordSize, maxRecords}
+use Rattle.slices.specs.Limits.{recordSize, maxRecords}
 use Rattle.slices.specs.Record.{records, count}
 use Rattle.slices.proofs.Laws.Record.{length-records}
 use Rattle.runs.specs.Runs.{runs}
 use Rattle.joined.specs.Lists.{total, parts}
-use Rattle.plans.specs.Piece.{pieceSize, encodePieces, inChunk}
 use Rattle.plans.specs.Plan.{pieces}
 use Rattle.plans.proofs.Laws.Few.{blocks-both, plan-most}
-use Rattle.plans.proofs.Laws.Pieces.{length-encodePieces}
 use Rattle.files.specs.File.{partFrom, partEnd, chunkPlan, chunkPlans}
 use Rattle.files.proofs.Laws.Joins.{remaining, remains}
 use Rattle.slices.specs.declared.Record.{Record}

@@ -1,13 +1,11 @@
 -- The plan of several lists is their chunks' plans, one after the other, with the places moved; of one list it is the read plan of its chunk.
 -- Assumes nothing.
-use Prim.Native.Nat.{ℕ, zero, suc, _+_, _-_, _*_, _/_, _%_, _≤_, _<_, min}
+use Prim.Native.Nat.{ℕ, suc, _+_, _-_, _*_, _/_, _%_, _≤_, _<_, min}
 use native.Mathlib.Omega.{arith}
 use native.Mathlib.Nat.{add-zero, zero-add, suc-mul}
 use native.Mathlib.Decide.{decLt}
-use mathlib.Core.Path.{_≡_, refl, sym, ap, _∙_}
-use mathlib.Core.Bool.{false, _&&_}
+use mathlib.Core.Path.{_≡_, sym, ap, _∙_}
 use mathlib.Core.List.{List, [], _∷_, _++_, map, append-nil}
-use lib.Dec.{eqb}
 use lib.ListN.{length, getD}
 use lib.Seq.{take-all}
 use borrow.Author.Tests.{ne-eqb}
@@ -15,9 +13,9 @@ use Rattle.slices.specs.Limits.{chunk}
 use Rattle.slices.specs.Record.{records}
 use Rattle.joined.specs.Lists.{parts}
 use Rattle.files.specs.Calls.{listsIn, fileBytes}
-use Rattle.runs.specs.Runs.{Run, runs, Parts}
+use Rattle.runs.specs.Runs.{runs, Parts}
 use Rattle.runs.proofs.Laws.Runs.{runs-append}
-use Rattle.plans.specs.Location.{Site, nextSite, nextLocation, locationAt}
+use Rattle.plans.specs.Location.{Site, nextSite}
 use Rattle.plans.specs.Calls.{planBytes}
 use Rattle.plans.specs.Piece.{encodePieces, inChunk, chunkBytes}
 use Rattle.plans.specs.Plan.{cutTo, locationFrom, pieces, readPlan}

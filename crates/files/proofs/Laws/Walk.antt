@@ -3,7 +3,7 @@ use Prim.Native.Nat.{ℕ, suc, _+_, _-_, _*_, _/_, _%_, _^_, _<_, _≤_}
 use native.Mathlib.Omega.{arith}
 use native.Mathlib.Nat.{add-zero, zero-add, div-le-self}
 use native.Mathlib.Numerals.{add-one}
-use mathlib.Core.Path.{_≡_, refl, sym, ap, _∙_}
+use mathlib.Core.Path.{_≡_, refl, sym, _∙_}
 use mathlib.Core.Bool.{Bool, true, false, cond}
 use mathlib.Core.List.{List, [], _∷_, _++_, map, flatMap}
 use lib.ListN.{length, take, drop, getD, length-map, drop-of-length-le}
@@ -132,7 +132,7 @@ module _ (first B from end : ℕ) where
     pub bytes-room : (room : ℕ) → (4 * (length bs / recordSize) + 2 * length ns + (end - from) / B) * pieceSize ≤ room → length (bytesOf first B from end 0 (parts ns bs)) ≤ room
     bytes-room room h = omega (arith, counted, rw adds at (records-fill ns bs (omega arith)))
 
-    pub bytes-few : length ns ≤ maxLists → end < 2 ^ 32 → length (bytesOf first B from end 0 (parts ns bs)) ≤ 2 ^ 40
+    bytes-few : length ns ≤ maxLists → end < 2 ^ 32 → length (bytesOf first B from end 0 (parts ns bs)) ≤ 2 ^ 40
     bytes-few h l = omega (arith, counted, records-most ns bs accepts, div-le-self (end - from) B)
 
     pub walked-low : (write : Bool) (out₀ out : List ℕ) (at to k : ℕ) → Walked ns bs write out₀ out at to k → length ns ≤ maxLists → end < 2 ^ 32 → to ≤ 2 ^ 40

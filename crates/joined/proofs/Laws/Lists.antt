@@ -7,24 +7,14 @@ use lib.ListN.{length, take, drop, getD, length-take, length-drop, take-append-d
 use lib.Dec.{eqb}
 use native.Mathlib.Decide.{ℕ-discrete}
 use borrow.Author.Tests.{eq-eqb, ne-eqb}
-use lib.Seq.{drop-drop, drop-cons, take-append-seam, drop-append-seam}
+use lib.Seq.{drop-cons, take-append-seam, drop-append-seam}
 use Rattle.joined.specs.Lists.{total, parts}
 
 -- ---- the lengths
 
--- what stands before a list, and what stands from it on
-pub total-take : (k : ℕ) (ns : List ℕ) → total (take k ns) + total (drop k ns) ≡ total ns
-unfolding total
-total-take zero ns = omega arith
-total-take (suc k) [] = refl
-total-take (suc k) (n ∷ ns) = omega (arith, total-take k ns)
-
 pub total-next : (k : ℕ) (ns : List ℕ) → k < length ns → total (drop k ns) ≡ getD ns k 0 + total (drop (suc k) ns)
 unfolding total
 total-next k ns h = rw (drop-cons ns k 0)
-
-pub total-within : (k : ℕ) (ns : List ℕ) → k < length ns → total (take k ns) + getD ns k 0 ≤ total ns
-total-within k ns h = omega (arith, total-take k ns, total-next k ns h)
 
 -- nothing is left behind the last
 pub total-end : (k : ℕ) (ns : List ℕ) → length ns ≤ k → total (drop k ns) ≡ 0
@@ -48,13 +38,6 @@ pub parts-length : (ns bs : List ℕ) → length (parts ns bs) ≡ length ns
 unfolding parts
 parts-length [] bs = refl
 parts-length (n ∷ ns) bs = ap suc (parts-length ns (drop n bs))
-
--- the list with the number k
-pub parts-at : (k : ℕ) (ns bs : List ℕ) → k < length ns → getD (parts ns bs) k [] ≡ take (getD ns k 0) (drop (total (take k ns)) bs)
-unfolding parts total
-parts-at k [] bs h = absurd (omega arith)
-parts-at zero (n ∷ ns) bs h = refl
-parts-at (suc k) (n ∷ ns) bs h = parts-at k ns (drop n bs) (omega arith) ∙ ap (take (getD ns k 0)) (drop-drop (total (take k ns)) n bs)
 
 -- the lists from the number k on
 pub parts-next : (k : ℕ) (ns bs : List ℕ) → k < length ns → parts (drop k ns) bs ≡ take (getD ns k 0) bs ∷ parts (drop (suc k) ns) (drop (getD ns k 0) bs)

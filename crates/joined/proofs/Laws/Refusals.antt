@@ -1,11 +1,11 @@
 -- Laws of the refusals of several lists: the first refused list gives the refusal, with its index. Assumes nothing.
-use Prim.Native.Nat.{ℕ, zero, suc, _+_, _<_}
+use Prim.Native.Nat.{ℕ, suc, _+_}
 use native.Mathlib.Omega.{arith}
-use mathlib.Core.Path.{_≡_, refl, sym, ap, subst, _∙_}
+use mathlib.Core.Path.{_≡_, refl, sym, ap, _∙_}
 use mathlib.Core.Logic.{_↔_}
 use mathlib.Core.Bool.{Bool, true, false, cond}
 use mathlib.Core.List.{List, [], _∷_, _++_}
-use lib.ListN.{length, take, drop, getD}
+use lib.ListN.{length}
 use Rattle.codec.specs.All.{All}
 use Rattle.codec.proofs.Laws.All.{all-left, all-right}
 use Rattle.outcomes.specs.Outcome.{OutcomeOf, refused, done, RowOf, Row, Outcome, firstOf, NoneHolds}
@@ -15,9 +15,7 @@ use Rattle.slices.specs.Accepts.{Accepts}
 use Rattle.slices.specs.Record.{count}
 use Rattle.slices.specs.Refusals.{listRows, checkOutcome, checked}
 use Rattle.slices.proofs.Laws.Refusals.{none-accepts, accepted-exactly, check-answered-exactly, check-accepts}
-use Rattle.joined.specs.Lists.{total, parts}
 use Rattle.joined.specs.Refusals.{ofList, rowsOf, listsRows, listsOutcome, checkedLists, FirstRefusedList}
-use Rattle.joined.proofs.Laws.Lists.{parts-length, parts-at}
 use Rattle.outcomes.specs.declared.Refusal.{Refusal}
 use Rattle.joined.specs.declared.ListRefusal.{ListRefusal}
 use Rattle.joined.specs.declared.CheckedLists.the-variants.{Accepted, Refused}
@@ -25,17 +23,17 @@ use Rattle.joined.specs.declared.CheckedLists.the-variants.{Accepted, Re
 -- ---- a table that speaks of one list: its rows hold as they do without the index
 
 module _ (i : ℕ) where
-  pub rows-none : (rows : List Row) → NoneHolds rows → NoneHolds (rowsOf i rows)
+  rows-none : (rows : List Row) → NoneHolds rows → NoneHolds (rowsOf i rows)
   unfolding rowsOf
   rows-none [] h = tt
   rows-none (r ∷ rows) h = (h .0, rows-none rows (h .1))
 
-  pub none-rows : (rows : List Row) → NoneHolds (rowsOf i rows) → NoneHolds rows
+  none-rows : (rows : List Row) → NoneHolds (rowsOf i rows) → NoneHolds rows
   unfolding rowsOf
   none-rows [] h = tt
   none-rows (r ∷ rows) h = (h .0, none-rows rows (h .1))
 
-  pub rows-stop : {A B : Type 0} (a : A) (rows : List Row) (o : OutcomeOf ListRefusal B) (r : Refusal)
+  rows-stop : {A B : Type 0} (a : A) (rows : List Row) (o : OutcomeOf ListRefusal B) (r : Refusal)
       → firstOf rows (done a) ≡ refused r → firstOf (rowsOf i rows) o ≡ refused (ofList i r)
   unfolding firstOf rowsOf
   rows-stop a [] o r h = let z : _≡_ {A = ℕ} 0 1 = cc in absurd (omega arith)
@@ -65,7 +63,7 @@ module _ {A : Type 0} (i : ℕ) (l : List ℕ) (ls : List (List ℕ)) (o : Outco
       firstOf-append (rowsOf i (listRows l)) (listsRows (suc i) ls) o
       ∙ none-passes (rowsOf i (listRows l)) (firstOf (listsRows (suc i) ls) o) (rows-none i (listRows l) (accepts-none l a))
 
-pub accepts-passes : {A : Type 0} (i : ℕ) (ls : List (List ℕ)) (o : OutcomeOf ListRefusal A) → All Accepts ls → firstOf (listsRows i ls) o ≡ o
+accepts-passes : {A : Type 0} (i : ℕ) (ls : List (List ℕ)) (o : OutcomeOf ListRefusal A) → All Accepts ls → firstOf (listsRows i ls) o ≡ o
 unfolding listsRows firstOf
 accepts-passes i [] o h = refl
 accepts-passes i (l ∷ ls) o h = list-passes i l ls o (h .0) ∙ accepts-passes (suc i) ls o (h .1)
@@ -92,16 +90,6 @@ module _ (i : ℕ) (ls : List (List ℕ)) where
   pub lists-accepted-exactly : (listsOutcome i ls ≡ done (length ls)) ↔ All Accepts ls
   unfolding listsOutcome
   lists-accepted-exactly = (lists-accepted (length ls), accepts-passes i ls (done (length ls)))
-
--- each of them is accepted
-pub accepted-at : (ls : List (List ℕ)) (k : ℕ) → k < length ls → All Accepts ls → Accepts (getD ls k [])
-accepted-at [] k h a = absurd (omega arith)
-accepted-at (l ∷ ls) zero h a = a .0
-accepted-at (l ∷ ls) (suc k) h a = accepted-at ls k (omega arith) (a .1)
-
--- the list with the number k, where it stands in joined bytes
-pub part-accepted : (ns bs : List ℕ) (k : ℕ) → k < length ns → All Accepts (parts ns bs) → Accepts (take (getD ns k 0) (drop (total (take k ns)) bs))
-part-accepted ns bs k h a = subst Accepts (parts-at k ns bs h) (accepted-at (parts ns bs) k (rw parts-length h) a)
 
 -- ---- one is refused
 

@@ -1,7 +1,7 @@
 -- `files::rooms::answer` meets its contract: each answer is that of its case. Assumes nothing.
 use Prim.Native.Nat.{ℕ, _≤_}
 use native.Mathlib.Omega.{arith}
-use mathlib.Core.Path.{_≡_, refl, ap, _∙_}
+use mathlib.Core.Path.{refl}
 use mathlib.Core.Bool.{false≢true}
 use mathlib.Core.List.{List}
 use denote.Ref.{now}

@@ -1,8 +1,8 @@
 -- `files::walk::walk_list` meets its contract: nothing for a chunk without a place of the read, else what the walk over its pieces does.
 -- Assumes nothing.
-use Prim.Native.Nat.{_+_, _-_, _*_, _%_, _^_, _<_, _≤_}
+use Prim.Native.Nat.{_+_, _-_, _*_}
 use native.Mathlib.Omega.{arith}
-use mathlib.Core.Path.{_≡_, ap, _∙_}
+use mathlib.Core.Path.{_≡_, ap}
 use lib.ListN.{length}
 use denote.Ref.{now}
 use Rattle.slices.specs.Limits.{chunk}
