@@ -6,5 +6,6 @@ pub mod Bytes
 pub mod Edges
 pub mod Few
 pub mod Walk
+pub mod Rooms
 pub mod Calls
 pub mod Answered

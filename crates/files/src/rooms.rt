@@ -30,9 +30,53 @@ fn roomy(bytes: usize, lists: usize, from: u32, end: u32, bits: u32, room: usize
     4 * (bytes / RECORD) + 2 * lists + ((end - from) >> bits) as usize <= room / PIECE
 }
 
-// Writes the pieces of the positions from `from` up to `end` to the front of a buffer that has room for them, or only counts their bytes, with room
-// to resolve every list that is accepted; how many bytes they have. It has several callers, and so a frame of its own.
-fn in_room(
+// Writes the pieces of the positions from `from` up to `end` to the front of a buffer that has room for them, or only counts their bytes; how many
+// bytes they have. For lists of at most 256 records together.
+fn in_small_room(
+    lists: &[u8],
+    lengths: &[u64],
+    first: u32,
+    from: u32,
+    end: u32,
+    block: u32,
+    bits: u32,
+    write: bool,
+    out: &mut [u8],
+) -> usize
+    requires { ⌜ (total (now lengths) ≡ length (now lists)) × All Accepts (parts (now lengths) (now lists)) ⌝ }
+    requires { ⌜ length (now lists) ≤ 256 * recordSize ⌝ }
+    requires { ⌜ (length (now lengths) ≤ maxLists) × (first + length (now lengths) ≤ 2 ^ 32) × Shifts block bits ⌝ }
+    requires { ⌜ (write ≡ true → length (bytesOf first block from end 0 (parts (now lengths) (now lists))) ≤ length (now out)) ⌝ }
+    ensures { λ r. ⌜ r ≡ length (bytesOf first block from end 0 (parts (now (lengths .entry)) (now (lists .entry)))) ⌝ }
+    ensures { λ _. ⌜ now (out .exit) ≡ cond write (splice (now (out .entry)) 0 (bytesOf first block from end 0 (parts (now (lengths .entry)) (now (lists .entry))))) (now (out .entry)) ⌝ }
+{
+    let mut marks = [0u32; 514];
+    let mut tops = [0u16; 513];
+    let mut pos = [0u64; 256];
+    let mut ends = [0u32; 256];
+    let mut order = [0u16; 256];
+    let mut spare = [0u16; 256];
+    walk::walk_lists(
+        lists,
+        lengths,
+        first,
+        from,
+        end,
+        block,
+        bits,
+        write,
+        out,
+        &mut marks,
+        &mut tops,
+        &mut pos,
+        &mut ends,
+        &mut order,
+        &mut spare,
+    )
+}
+
+// The same for all lists that are accepted.
+fn in_large_room(
     lists: &[u8],
     lengths: &[u64],
     first: u32,
@@ -72,6 +116,30 @@ fn in_room(
         &mut order,
         &mut spare,
     )
+}
+
+// The same in the smaller room that does. It has several callers, and so a frame of its own.
+fn in_room(
+    lists: &[u8],
+    lengths: &[u64],
+    first: u32,
+    from: u32,
+    end: u32,
+    block: u32,
+    bits: u32,
+    write: bool,
+    out: &mut [u8],
+) -> usize
+    requires { ⌜ (total (now lengths) ≡ length (now lists)) × All Accepts (parts (now lengths) (now lists)) ⌝ }
+    requires { ⌜ (length (now lengths) ≤ maxLists) × (first + length (now lengths) ≤ 2 ^ 32) × Shifts block bits ⌝ }
+    requires { ⌜ (write ≡ true → length (bytesOf first block from end 0 (parts (now lengths) (now lists))) ≤ length (now out)) ⌝ }
+    ensures { λ r. ⌜ r ≡ length (bytesOf first block from end 0 (parts (now (lengths .entry)) (now (lists .entry)))) ⌝ }
+    ensures { λ _. ⌜ now (out .exit) ≡ cond write (splice (now (out .entry)) 0 (bytesOf first block from end 0 (parts (now (lengths .entry)) (now (lists .entry))))) (now (out .entry)) ⌝ }
+{
+    if lists.len() <= 256 * RECORD {
+        return in_small_room(lists, lengths, first, from, end, block, bits, write, out);
+    }
+    in_large_room(lists, lengths, first, from, end, block, bits, write, out)
 }
 
 // Answers with these pieces. They are counted first only where they may have no room.

@@ -7,7 +7,6 @@ ghost use Prim.Native.Nat.{_+_, _*_, _^_, _<_, _≤_};
 ghost use lib.ListN.{length};
 ghost use Rattle.codec.specs.All.{All};
 ghost use Rattle.codec.specs.Splice.{splice};
-ghost use Rattle.slices.specs.Accepts.{Accepts};
 ghost use Rattle.slices.specs.Limits.{chunk};
 ghost use Rattle.slices.specs.Record.{records};
 ghost use Rattle.joined.specs.Lists.{total, parts};
@@ -15,7 +14,7 @@ ghost use Rattle.plans.specs.Inner.{Shifts};
 ghost use Rattle.plans.specs.Piece.{encodePieces};
 ghost use Rattle.files.specs.Limits.{maxLists};
 ghost use Rattle.files.specs.File.{chunkPlan};
-ghost use Rattle.files.specs.Inner.{Room, bytesOf};
+ghost use Rattle.files.specs.Inner.{Resolvable, bytesOf};
 
 // Writes the pieces of the k-th chunk's positions into a buffer that has room for them, from `start` on, or only counts their bytes; where they end.
 fn walk_list(
@@ -36,9 +35,8 @@ fn walk_list(
     order: &mut [u16],
     spare: &mut [u16],
 ) -> usize
-    requires { ⌜ Accepts (now list) ⌝ }
+    requires { ⌜ Resolvable (now marks) (now tops) (now pos) (now ends) (now order) (now spare) (now list) ⌝ }
     requires { ⌜ (k < maxLists) × (first + k < 2 ^ 32) × (start ≤ 2 ^ 40) × Shifts block bits ⌝ }
-    requires { ⌜ Room (now marks) (now tops) (now pos) (now ends) (now order) (now spare) ⌝ }
     requires { ⌜ (write ≡ true → start + length (encodePieces (chunkPlan first block from end k (records (now list)))) ≤ length (now out)) ⌝ }
     ensures { λ r. ⌜ r ≡ start + length (encodePieces (chunkPlan first block from end k (records (now (list .entry))))) ⌝ }
     ensures { λ _. ⌜ now (out .exit) ≡ cond write (splice (now (out .entry)) start (encodePieces (chunkPlan first block from end k (records (now (list .entry)))))) (now (out .entry)) ⌝ }
@@ -83,9 +81,8 @@ pub(crate) fn walk_lists(
     order: &mut [u16],
     spare: &mut [u16],
 ) -> usize
-    requires { ⌜ (total (now lengths) ≡ length (now lists)) × All Accepts (parts (now lengths) (now lists)) ⌝ }
+    requires { ⌜ (total (now lengths) ≡ length (now lists)) × All (Resolvable (now marks) (now tops) (now pos) (now ends) (now order) (now spare)) (parts (now lengths) (now lists)) ⌝ }
     requires { ⌜ (length (now lengths) ≤ maxLists) × (first + length (now lengths) ≤ 2 ^ 32) × Shifts block bits ⌝ }
-    requires { ⌜ Room (now marks) (now tops) (now pos) (now ends) (now order) (now spare) ⌝ }
     requires { ⌜ (write ≡ true → length (bytesOf first block from end 0 (parts (now lengths) (now lists))) ≤ length (now out)) ⌝ }
     ensures { λ r. ⌜ r ≡ length (bytesOf first block from end 0 (parts (now (lengths .entry)) (now (lists .entry)))) ⌝ }
     ensures { λ _. ⌜ now (out .exit) ≡ cond write (splice (now (out .entry)) 0 (bytesOf first block from end 0 (parts (now (lengths .entry)) (now (lists .entry))))) (now (out .entry)) ⌝ }

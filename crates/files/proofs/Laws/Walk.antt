@@ -63,19 +63,19 @@ module _ (first B from end : ℕ) where
   unfolding chunkPlans encodePieces
   bytes-next k l ls = flatMap-append encodeRun (chunkPlan first B from end k (records l)) (chunkPlans first B from end (suc k) (map records ls))
 
-  -- k lists are planned; their bytes end at `at`, and those of their plan at `to`
-  pub record Walked (ns bs : List ℕ) (write : Bool) (out₀ out : List ℕ) (at to k : ℕ) : Type 0 where
+  -- k lists are planned; their bytes end at `at`, and those of their plan at `to`. Of each list P holds
+  pub record Walked (P : List ℕ → Type 0) (ns bs : List ℕ) (write : Bool) (out₀ out : List ℕ) (at to k : ℕ) : Type 0 where
     pub within : k ≤ length ns
     pub left : at + total (drop k ns) ≡ length bs
-    pub accepted : All Accepts (parts (drop k ns) (drop at bs))
+    pub holds : All P (parts (drop k ns) (drop at bs))
     pub puts : Putting write out₀ 0 (bytesOf first B from end 0 (parts ns bs)) out to (bytesOf first B from end k (parts (drop k ns) (drop at bs)))
 
-  module _ (ns bs : List ℕ) (write : Bool) where
-    pub walked-start : (out : List ℕ) → total ns ≡ length bs → All Accepts (parts ns bs) → (write ≡ true → length (bytesOf first B from end 0 (parts ns bs)) ≤ length out)
-        → Walked ns bs write out out 0 0 0
-    walked-start out h a r = record { within = omega arith; left = omega arith; accepted = a; puts = putting-start _ _ _ _ (λ t. omega (arith, r t)) }
+  module _ (P : List ℕ → Type 0) (ns bs : List ℕ) (write : Bool) where
+    pub walked-start : (out : List ℕ) → total ns ≡ length bs → All P (parts ns bs) → (write ≡ true → length (bytesOf first B from end 0 (parts ns bs)) ≤ length out)
+        → Walked P ns bs write out out 0 0 0
+    walked-start out h a r = record { within = omega arith; left = omega arith; holds = a; puts = putting-start _ _ _ _ (λ t. omega (arith, r t)) }
 
-    module _ (out₀ out : List ℕ) (at to k : ℕ) (w : Walked ns bs write out₀ out at to k) where
+    module _ (out₀ out : List ℕ) (at to k : ℕ) (w : Walked P ns bs write out₀ out at to k) where
       -- the next list lies inside the bytes
       pub walked-within : k < length ns → at + getD ns k 0 ≤ length bs
       walked-within h = omega (arith, w .left, total-next k ns h)
@@ -90,8 +90,8 @@ module _ (first B from end : ℕ) where
             let z : stop - at ≡ getD ns k 0 = omega arith in
             parts-next k ns (drop at bs) h ∙ rw (z, drop-drop (getD ns k 0) at bs, e)
 
-        pub walked-accepts : Accepts list
-        walked-accepts = (rw left-is at (w .accepted)) .0
+        pub walked-holds : P list
+        walked-holds = (rw left-is at (w .holds)) .0
 
         next : Putting write out₀ 0 (bytesOf first B from end 0 (parts ns bs)) out to (encodePieces (chunkPlan first B from end k (records list)) ++ bytesOf first B from end (suc k) (parts (drop (suc k) ns) (drop stop bs)))
         next = rw (left-is, bytes-next k list (parts (drop (suc k) ns) (drop stop bs))) at (w .puts)
@@ -100,13 +100,13 @@ module _ (first B from end : ℕ) where
         walked-room t = putting-room _ _ _ _ out to (encodePieces (chunkPlan first B from end k (records list))) (bytesOf first B from end (suc k) (parts (drop (suc k) ns) (drop stop bs))) next t
 
         pub walked-more : (out₁ : List ℕ) (to₁ : ℕ) → to₁ ≡ to + length (encodePieces (chunkPlan first B from end k (records list)))
-            → out₁ ≡ cond write (splice out to (encodePieces (chunkPlan first B from end k (records list)))) out → Walked ns bs write out₀ out₁ stop to₁ (k + 1)
+            → out₁ ≡ cond write (splice out to (encodePieces (chunkPlan first B from end k (records list)))) out → Walked P ns bs write out₀ out₁ stop to₁ (k + 1)
         walked-more out₁ to₁ g p =
             rw add-one
             (record {
               within = omega arith;
               left = omega (arith, w .left, total-next k ns h);
-              accepted = (rw left-is at (w .accepted)) .1;
+              holds = (rw left-is at (w .holds)) .1;
               puts = putting-more _ _ _ _ _ _ _ _ next out₁ to₁ p g;
             })
 
@@ -135,19 +135,5 @@ module _ (first B from end : ℕ) where
     bytes-few : length ns ≤ maxLists → end < 2 ^ 32 → length (bytesOf first B from end 0 (parts ns bs)) ≤ 2 ^ 40
     bytes-few h l = omega (arith, counted, records-most ns bs accepts, div-le-self (end - from) B)
 
-    pub walked-low : (write : Bool) (out₀ out : List ℕ) (at to k : ℕ) → Walked ns bs write out₀ out at to k → length ns ≤ maxLists → end < 2 ^ 32 → to ≤ 2 ^ 40
-    walked-low write out₀ out at to k w h l = omega (arith, w .puts .sum, bytes-few h l)
-
--- rooms that are as long as before
-pub room-kept : {marks tops pos ends order spare : List ℕ} → Room marks tops pos ends order spare → {marks' tops' pos' ends' order' spare' : List ℕ}
-    → length marks' ≡ length marks → length tops' ≡ length tops → length pos' ≡ length pos → length ends' ≡ length ends → length order' ≡ length order
-    → length spare' ≡ length spare → Room marks' tops' pos' ends' order' spare'
-room-kept r a b c d e f =
-    record {
-      marks-fit = omega (arith, r .marks-fit);
-      tops-fit = omega (arith, r .tops-fit);
-      pos-fit = omega (arith, r .pos-fit);
-      ends-fit = omega (arith, r .ends-fit);
-      order-fit = omega (arith, r .order-fit);
-      spare-fit = omega (arith, r .spare-fit);
-    }
+    pub walked-low : (P : List ℕ → Type 0) (write : Bool) (out₀ out : List ℕ) (at to k : ℕ) → Walked P ns bs write out₀ out at to k → length ns ≤ maxLists → end < 2 ^ 32 → to ≤ 2 ^ 40
+    walked-low P write out₀ out at to k w h l = omega (arith, w .puts .sum, bytes-few h l)

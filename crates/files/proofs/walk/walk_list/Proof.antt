@@ -28,9 +28,8 @@ returns c =
 resolve-requires : tie.Need-resolve-requires
 resolve-requires c κs =
     let p = c .before .before .before .before .before .before .before .before .before .before .before .before .before .before .before .before .before .pre in
-    let few = p .0 .few in
-    let r = p .1 .1 .0 in
-    (p .0 .pass, (few, ((omega (arith, few, r .marks-fit), omega (arith, few, r .tops-fit)), (omega (arith, few, r .pos-fit), omega (arith, few, r .ends-fit), omega (arith, few, r .order-fit), omega (arith, few, r .spare-fit)))))
+    let r = p .0 .1 in
+    (p .0 .0 .pass, (p .0 .0 .few, ((r .marks-fit, r .tops-fit), (r .pos-fit, r .ends-fit, r .order-fit, r .spare-fit))))
 
 add-front : tie.Need-add-front
 add-front c = omega (arith, c .before .before .before .before .before .before .before .before .before .before .before .before .before .before .before .before .before .before .before .before .before .before .before .before .before .before .before .before .before .before .pre .1 .0 .1)
@@ -69,7 +68,7 @@ walk-pieces-requires c κs =
       c .before .before .before .before .before .before .before .before .before .before .before .before .before .before .before .before .resolve .ensures,
       (
         (c .before .before .before .before .before .before .before .before .before .before .before .before .before .before .before .before .before .before .before .before .before .before .before .if1 .left, omega (arith, e .1), p .1 .0 .3),
-        ((omega (arith, e .0, e .1, before .ensures, p .1 .0 .0), p .1 .0 .2), (λ t. omega (arith, p .1 .1 .1 t, ap length (same (c .before .before .before))))),
+        ((omega (arith, e .0, e .1, before .ensures, p .1 .0 .0), p .1 .0 .2), (λ t. omega (arith, p .1 .1 t, ap length (same (c .before .before .before))))),
       ),
     )
 

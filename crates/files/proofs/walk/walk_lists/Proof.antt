@@ -5,15 +5,18 @@ use native.Mathlib.Omega.{arith}
 use mathlib.Core.Path.{_≡_, refl}
 use lib.ListN.{length, getD}
 use denote.Ref.{now}
+use Rattle.joined.specs.Lists.{parts}
 use Rattle.plans.proofs.Laws.Shifts.{shifts-some}
-use Rattle.files.proofs.Laws.Walk.{Walked, walked-start, walked-within, walked-accepts, walked-room, walked-more, walked-end, walked-low, room-kept}
+use Rattle.files.specs.Inner.{Resolvable}
+use Rattle.files.proofs.Laws.Walk.{Walked, walked-start, walked-within, walked-holds, walked-room, walked-more, walked-end, walked-low}
+use Rattle.files.proofs.Laws.Rooms.{room-kept, all-accepted}
 use borrow.Author.Needs.{needs}
 use Rattle.files.proofs.walk.walk_lists.Statement.{statement}
 use Rattle.files.proofs.walk.walk_lists.Tie as tie
 
 abbrev Inv-loop : tie.InvT-loop
 Inv-loop lists lengths first from end block bits write out₀ marks₀ tops₀ pos₀ ends₀ order₀ spare₀ at₀ to₀ k₀ out marks tops pos ends order spare at to k =
-    Walked first block from end lengths lists write out₀ out at to k
+    Walked first block from end (Resolvable marks₀ tops₀ pos₀ ends₀ order₀ spare₀) lengths lists write out₀ out at to k
     × (length marks ≡ length marks₀) × (length tops ≡ length tops₀) × (length pos ≡ length pos₀) × (length ends ≡ length ends₀) × (length order ≡ length order₀) × (length spare ≡ length spare₀)
 
 abbrev μ-loop : tie.MeasureT-loop
@@ -23,14 +26,14 @@ abbrev μ-loop : tie.MeasureT-loop
 loop-holds : tie.Need-loop-holds Inv-loop μ-loop
 loop-holds c =
     let p = c .before .before .before .before .before .before .before .before .before .pre in
-    (walked-start _ _ _ _ _ _ _ _ (p .0 .0) (p .0 .1) (p .1 .1 .1), refl, refl, refl, refl, refl, refl)
+    (walked-start _ _ _ _ _ _ _ _ _ (p .0 .0) (p .0 .1) (p .1 .1), refl, refl, refl, refl, refl, refl)
 
 -- the next list lies inside the bytes
 inside : (c : tie.In-loop Inv-loop μ-loop)
     → let l = c .before in
     let a = l .before .before .before .before .before .before .before .before .before .before .args in
     l .loop .at + getD (now (a .lengths)) (l .loop .k) 0 ≤ length (now (a .lists))
-inside c = walked-within _ _ _ _ _ _ _ _ _ _ _ _ (c .before .loop .inv .0) (c .loop-test .taken)
+inside c = walked-within _ _ _ _ _ _ _ _ _ _ _ _ _ (c .before .loop .inv .0) (c .loop-test .taken)
 
 mul-stop : tie.Need-mul-stop Inv-loop μ-loop
 mul-stop c = search needs
@@ -60,14 +63,13 @@ walk-list-requires c κs =
     let p = c .before .before .before .before .before .before .before .before .before .before .before .before .before .before .before .before .before .before .before .before .pre in
     let i = l .inv in
     let h = turn .loop-test .taken in
-    let r = p .1 .1 .0 in (
-      walked-accepts _ _ _ _ _ _ _ _ _ _ _ _ (i .0) h _ refl,
+    let a = c .before .before .before .before .before .before .before .before .before .before .before .before .before .before .before .before .before .before .before .before .args in
+    let accepted = all-accepted (now (a .marks)) (now (a .tops)) (now (a .pos)) (now (a .ends)) (now (a .order)) (now (a .spare)) (parts (now (a .lengths)) (now (a .lists))) (p .0 .1) in
+    let r = walked-holds _ _ _ _ _ _ _ _ _ _ _ _ _ (i .0) h _ refl in (
+      (r .0, room-kept (r .1) (i .1) (i .2) (i .3) (i .4) (i .5) (i .6)),
       (
-        (omega (arith, h, p .1 .0 .0), omega (arith, h, p .1 .0 .1), walked-low _ _ _ _ _ _ (p .0 .0) (p .0 .1) (shifts-some _ _ (p .1 .0 .2)) _ _ _ _ _ _ (i .0) (p .1 .0 .0) (omega (arith, c .before .before .before .before .before .before .before .before .before .before .before .before .before .before .before .before .before .before .before .before .fits .end)), p .1 .0 .2),
-        (
-          room-kept r (i .1) (i .2) (i .3) (i .4) (i .5) (i .6),
-          walked-room _ _ _ _ _ _ _ _ _ _ _ _ (i .0) h _ refl,
-        ),
+        (omega (arith, h, p .1 .0 .0), omega (arith, h, p .1 .0 .1), walked-low _ _ _ _ _ _ (p .0 .0) accepted (shifts-some _ _ (p .1 .0 .2)) _ _ _ _ _ _ _ (i .0) (p .1 .0 .0) (omega (arith, c .before .before .before .before .before .before .before .before .before .before .before .before .before .before .before .before .before .before .before .before .fits .end)), p .1 .0 .2),
+        walked-room _ _ _ _ _ _ _ _ _ _ _ _ _ (i .0) h _ refl,
       ),
     )
 
@@ -83,7 +85,7 @@ loop-again c =
     let turn = called .before .before .before .before .before .before .before .before .before .before in
     let i = turn .before .loop .inv in
     let e = called .walk-list .ensures in
-    (walked-more _ _ _ _ _ _ _ _ _ _ _ _ (i .0) (turn .loop-test .taken) _ refl _ _ (e .0) (e .1), search needs, search needs, search needs, search needs, search needs, search needs)
+    (walked-more _ _ _ _ _ _ _ _ _ _ _ _ _ (i .0) (turn .loop-test .taken) _ refl _ _ (e .0) (e .1), search needs, search needs, search needs, search needs, search needs, search needs)
 
 same-length : tie.Need-same-length Inv-loop μ-loop
 same-length c = c .before .loop .inv .0 .puts .same
@@ -107,7 +109,7 @@ same-length-7 : tie.Need-same-length-7 Inv-loop μ-loop
 same-length-7 c = c .before .loop .inv .6
 
 returns : tie.Need-returns Inv-loop μ-loop
-returns c = walked-end _ _ _ _ _ _ _ _ _ _ _ _ (c .before .loop .inv .0) (c .loop-test .left)
+returns c = walked-end _ _ _ _ _ _ _ _ _ _ _ _ _ (c .before .loop .inv .0) (c .loop-test .left)
 
 pub walk-lists-spec : {M : Type 1} → statement M
 walk-lists-spec =
