@@ -7,8 +7,9 @@
  * writes its answer at the front of the buffer and leaves the rest as it was. The library
  * keeps no pointer and has no state, and a call needs less than 96 KiB of stack.
  *
- * A pointer must be good for as many bytes, or numbers, as the length or count beside it; with
- * 0 it may be NULL. Buffers to be written may overlap neither each other nor the inputs.
+ * A pointer must be good for as many bytes, or numbers, as the length or count beside it, and one
+ * to numbers aligned for them; with 0 it may be NULL. Buffers to be written may overlap neither
+ * each other nor the inputs.
  *
  * Refusals. `place` is the place of the record in its list, counted from 0, for 3 to 6 and
  * 16; for all others it is 0. Where several fit, the first in this order is given:

@@ -1,5 +1,5 @@
 // The positions that a list covers, by its records' own numbers.
-use crate::Span;
+use plans::Span;
 use slices::CHUNK;
 use slices::RECORD;
 use slices::records;

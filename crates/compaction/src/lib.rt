@@ -34,12 +34,6 @@ pub enum Compacted {
     Refused(Refusal),
 }
 
-// The positions from `from` up to, but without, `end`.
-struct Span {
-    from: u32,
-    end: u32,
-}
-
 // Answers with the pieces of the positions from `from` up to `end` of a list, each with the index of its chunk.
 fn planned(list: &[u8], from: u32, end: u32, block: u32, index: u32, plan: &mut [u8]) -> Answer
     requires { ⌜ All Passes (records (now list)) ⌝ }

@@ -9,3 +9,4 @@ pub mod Walk
 pub mod Rooms
 pub mod Calls
 pub mod Answered
+pub mod Claims

@@ -1,4 +1,5 @@
 pub mod Limits
 pub mod File
 pub mod Calls
+pub mod Claims
 pub mod Inner

@@ -102,9 +102,9 @@ parts-fit (n ∷ ns) bs b = (records-fit (take n bs) (all-take _ n bs b), parts-
 
 module _ (bs lengths : List ℕ) (b : Bytes bs) (a : All Accepts (parts lengths bs)) (few : length lengths ≤ maxLists)
     (first fileLen B start count : ℕ) (g : first + length lengths ≤ 2 ^ 32) where
-  how-many : length (listsIn bs lengths) ≡ length lengths
+  as-many : length (listsIn bs lengths) ≡ length lengths
   unfolding listsIn
-  how-many = rw length-map (parts-length lengths bs)
+  as-many = rw length-map (parts-length lengths bs)
 
   -- the bytes of the plan are read back as the plan
   pub file-plan-back : piecesIn (fileBytes bs lengths first fileLen B start count) ≡ filePlan first B (listsIn bs lengths) fileLen start count
@@ -112,11 +112,11 @@ module _ (bs lengths : List ℕ) (b : Bytes bs) (a : All Accepts (parts lengths 
   file-plan-back =
       let ls = listsIn bs lengths in
       let e = start + cutTo (fileEnd first fileLen (length ls)) start count in
-      let f = chunks-fit first B start e 0 ls (parts-passes lengths bs a) (parts-fit lengths bs b) (omega (arith, how-many)) (omega (arith, how-many)) in
+      let f = chunks-fit first B start e 0 ls (parts-passes lengths bs a) (parts-fit lengths bs b) (omega (arith, as-many)) (omega (arith, as-many)) in
       pieces-back (filePlan first B ls fileLen start count) (rw (file-plan-joins first B ls fileLen start count) f)
 
   -- and fetch what the file has
   pub file-bytes-back : (st : Store) (i : ℕ) → i < cutTo (fileEnd first fileLen (length lengths)) start count
       → fetched st (storeRuns (fileBytes bs lengths first fileLen B start count)) i ≡ fileReads B st (listsIn bs lengths) (start + i)
   unfolding storeRuns
-  file-bytes-back st i h = rw file-plan-back (file-plan-bytes st first B (listsIn bs lengths) fileLen start count i (rw how-many h))
+  file-bytes-back st i h = rw file-plan-back (file-plan-bytes st first B (listsIn bs lengths) fileLen start count i (rw as-many h))

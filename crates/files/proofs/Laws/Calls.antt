@@ -83,9 +83,9 @@ module _ (bs ns : List ℕ) (first fileLen B start count room : ℕ) where
       unfolding firstOf
       file-done a l = passes a ∙ rw (le-ltb room (length (fileBytes bs ns first fileLen B start count)) l)
 
-      how-many : (n : ℕ) → listsOutcome first (parts ns bs) ≡ done n → n ≡ length (listsIn bs ns)
+      lists-counted-in : (n : ℕ) → listsOutcome first (parts ns bs) ≡ done n → n ≡ length (listsIn bs ns)
       unfolding listsIn
-      how-many n k = rw length-map (lists-counted first (parts ns bs) n k)
+      lists-counted-in n k = rw length-map (lists-counted first (parts ns bs) n k)
 
       pub file-accepted : (n : ℕ) → checkedLists (listsOutcome first (parts ns bs)) ≡ Accepted n → (from end : ℕ) → Cut (fileEnd first fileLen n) start count from end
           → outcome ≡ deliveredFile (encodePieces (chunkPlans first B from end 0 (map records (parts ns bs)))) room
@@ -95,7 +95,7 @@ module _ (bs ns : List ℕ) (first fileLen B start count room : ℕ) where
           let l = listsIn bs ns in
           lists-decide
           ∙ lists-lets first (parts ns bs) _ _ n d
-          ∙ ap (λ (xs : List ℕ). deliveredFile xs room) (ap encodePieces (plan-cut first B l fileLen start count from end (rw (how-many n d) at c)))
+          ∙ ap (λ (xs : List ℕ). deliveredFile xs room) (ap encodePieces (plan-cut first B l fileLen start count from end (rw (lists-counted-in n d) at c)))
 
   -- `file_plan` is refused with a number, a place and an index exactly when that row of its table holds and no row before it does
   pub file-refused-exactly : (r : ListRefusal) → (outcome ≡ refused r) ↔ Given (fileRows bs ns first fileLen B start count room) r

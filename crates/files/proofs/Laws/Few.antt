@@ -42,19 +42,13 @@ module _ (first B from end : ℕ) (some : 0 < B) where
 
 -- ---- of joined lists
 
-module _ (bs : List ℕ) where
-  -- the records of a list
-  how-many : length (records bs) ≡ length bs / recordSize
-  unfolding count
-  how-many = length-records bs
-
 pub records-fill : (ns bs : List ℕ) → total ns ≤ length bs → total (map length (map records (parts ns bs))) ≤ total ns / recordSize
-unfolding parts total
+unfolding parts total count
 records-fill [] bs h = omega arith
 records-fill (n ∷ ns) bs h =
     let e : length (take n bs) ≡ n = simp length-take (omega arith) in
     let t = records-fill ns (drop n bs) (simp length-drop (omega arith)) in
-    omega (arith, how-many (take n bs), e, t)
+    omega (arith, length-records (take n bs), e, t)
 
 pub records-most : (ns bs : List ℕ) → All Accepts (parts ns bs) → total (map length (map records (parts ns bs))) ≤ maxRecords * length ns
 unfolding parts total

@@ -7,7 +7,6 @@ use mathlib.Core.Path.{_≡_, refl, sym, _∙_}
 use mathlib.Core.Bool.{Bool, true, false, cond}
 use mathlib.Core.List.{List, [], _∷_, _++_, map, flatMap}
 use lib.ListN.{length, take, drop, getD, length-map, drop-of-length-le}
-use lib.Seq.{drop-drop}
 use Rattle.codec.specs.All.{All}
 use Rattle.codec.specs.Splice.{splice}
 use Rattle.codec.proofs.Laws.Groups.{flatMap-append}
@@ -18,13 +17,13 @@ use Rattle.slices.specs.Record.{records}
 use Rattle.runs.specs.Runs.{runs}
 use Rattle.runs.proofs.Laws.Putting.{Putting, putting-start, putting-room, putting-more, putting-end}
 use Rattle.joined.specs.Lists.{total, parts}
-use Rattle.joined.proofs.Laws.Lists.{total-next, parts-length, parts-next}
+use Rattle.joined.proofs.Laws.Lists.{parts-length, Gone, gone-start, gone-next, next-list}
 use Rattle.plans.specs.Inner.{frontBytes}
 use Rattle.plans.specs.Piece.{pieceSize, encodeRun, encodePieces, chunkBytes}
 use Rattle.plans.specs.Plan.{pieces}
 use Rattle.plans.proofs.Laws.Pieces.{length-encodePieces}
 use Rattle.files.specs.File.{partFrom, partEnd, chunkPlan, chunkPlans}
-use Rattle.files.specs.Inner.{Room, bytesOf}
+use Rattle.files.specs.Inner.{bytesOf}
 use Rattle.files.specs.Limits.{maxLists}
 use Rattle.files.proofs.Laws.Few.{plans-few, records-fill, records-most}
 use Rattle.slices.specs.declared.Record.{Record}
@@ -65,30 +64,23 @@ module _ (first B from end : ℕ) where
 
   -- k lists are planned; their bytes end at `at`, and those of their plan at `to`. Of each list P holds
   pub record Walked (P : List ℕ → Type 0) (ns bs : List ℕ) (write : Bool) (out₀ out : List ℕ) (at to k : ℕ) : Type 0 where
-    pub within : k ≤ length ns
-    pub left : at + total (drop k ns) ≡ length bs
+    pub gone : Gone ns bs at k
     pub holds : All P (parts (drop k ns) (drop at bs))
     pub puts : Putting write out₀ 0 (bytesOf first B from end 0 (parts ns bs)) out to (bytesOf first B from end k (parts (drop k ns) (drop at bs)))
 
   module _ (P : List ℕ → Type 0) (ns bs : List ℕ) (write : Bool) where
     pub walked-start : (out : List ℕ) → total ns ≡ length bs → All P (parts ns bs) → (write ≡ true → length (bytesOf first B from end 0 (parts ns bs)) ≤ length out)
         → Walked P ns bs write out out 0 0 0
-    walked-start out h a r = record { within = omega arith; left = omega arith; holds = a; puts = putting-start _ _ _ _ (λ t. omega (arith, r t)) }
+    walked-start out h a r = record { gone = gone-start ns bs h; holds = a; puts = putting-start _ _ _ _ (λ t. omega (arith, r t)) }
 
     module _ (out₀ out : List ℕ) (at to k : ℕ) (w : Walked P ns bs write out₀ out at to k) where
-      -- the next list lies inside the bytes
-      pub walked-within : k < length ns → at + getD ns k 0 ≤ length bs
-      walked-within h = omega (arith, w .left, total-next k ns h)
-
       -- the next list, which stands up to `stop`
       module _ (h : k < length ns) (stop : ℕ) (e : stop ≡ at + getD ns k 0) where
         abbrev list : List ℕ
         list = take (stop - at) (drop at bs)
 
         left-is : parts (drop k ns) (drop at bs) ≡ list ∷ parts (drop (suc k) ns) (drop stop bs)
-        left-is =
-            let z : stop - at ≡ getD ns k 0 = omega arith in
-            parts-next k ns (drop at bs) h ∙ rw (z, drop-drop (getD ns k 0) at bs, e)
+        left-is = next-list ns bs at k (w .gone) h stop e
 
         pub walked-holds : P list
         walked-holds = (rw left-is at (w .holds)) .0
@@ -104,8 +96,7 @@ module _ (first B from end : ℕ) where
         walked-more out₁ to₁ g p =
             rw add-one
             (record {
-              within = omega arith;
-              left = omega (arith, w .left, total-next k ns h);
+              gone = gone-next ns bs at k (w .gone) h stop e;
               holds = (rw left-is at (w .holds)) .1;
               puts = putting-more _ _ _ _ _ _ _ _ next out₁ to₁ p g;
             })

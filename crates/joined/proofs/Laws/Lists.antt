@@ -1,5 +1,5 @@
 -- Laws of joined lists: where each list stands in the bytes. Assumes nothing.
-use Prim.Native.Nat.{ℕ, zero, suc, _+_, _<_, _≤_}
+use Prim.Native.Nat.{ℕ, zero, suc, _+_, _-_, _<_, _≤_}
 use native.Mathlib.Omega.{arith}
 use mathlib.Core.Path.{_≡_, refl, sym, ap, _∙_}
 use mathlib.Core.List.{List, [], _∷_, _++_, map, flatten}
@@ -7,7 +7,7 @@ use lib.ListN.{length, take, drop, getD, length-take, length-drop, take-append-d
 use lib.Dec.{eqb}
 use native.Mathlib.Decide.{ℕ-discrete}
 use borrow.Author.Tests.{eq-eqb, ne-eqb}
-use lib.Seq.{drop-cons, take-append-seam, drop-append-seam}
+use lib.Seq.{drop-drop, drop-cons, take-append-seam, drop-append-seam}
 use Rattle.joined.specs.Lists.{total, parts}
 
 -- ---- the lengths
@@ -70,3 +70,28 @@ pub total-joined : (ls : List (List ℕ)) → total (map length ls) ≡ length (
 unfolding total flatten
 total-joined [] = refl
 total-joined (l ∷ ls) = rw (length-append l (flatten ls)) (ap (λ (n : ℕ). length l + n) (total-joined ls))
+
+-- ---- list by list
+
+-- k lists are gone by, and their bytes end at `at`
+pub record Gone (ns bs : List ℕ) (at k : ℕ) : Type 0 where
+  pub within : k ≤ length ns
+  pub left : at + total (drop k ns) ≡ length bs
+
+pub gone-start : (ns bs : List ℕ) → total ns ≡ length bs → Gone ns bs 0 0
+gone-start ns bs h = record { within = omega arith; left = omega arith }
+
+module _ (ns bs : List ℕ) (at k : ℕ) (g : Gone ns bs at k) (h : k < length ns) where
+  -- the next list lies inside the bytes
+  pub gone-within : at + getD ns k 0 ≤ length bs
+  gone-within = omega (arith, g .left, total-next k ns h)
+
+  -- it stands up to `end`
+  module _ (end : ℕ) (e : end ≡ at + getD ns k 0) where
+    pub gone-next : Gone ns bs end (suc k)
+    gone-next = record { within = omega arith; left = omega (arith, g .left, total-next k ns h) }
+
+    pub next-list : parts (drop k ns) (drop at bs) ≡ take (end - at) (drop at bs) ∷ parts (drop (suc k) ns) (drop end bs)
+    next-list =
+        let z : end - at ≡ getD ns k 0 = omega arith in
+        parts-next k ns (drop at bs) h ∙ rw (z, drop-drop (getD ns k 0) at bs, e)

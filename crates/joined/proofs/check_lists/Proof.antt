@@ -5,7 +5,8 @@ use native.Mathlib.Omega.{arith}
 use lib.ListN.{length, getD}
 use denote.Ref.{now}
 use borrow.Author.Needs.{needs}
-use Rattle.joined.proofs.Laws.Check.{Ahead, ahead-start, ahead-within, ahead-next, ahead-refused, ahead-end}
+use Rattle.joined.proofs.Laws.Lists.{gone-within}
+use Rattle.joined.proofs.Laws.Check.{Ahead, ahead-start, ahead-next, ahead-refused, ahead-end}
 use Rattle.joined.proofs.check_lists.Statement.{statement}
 use Rattle.joined.proofs.check_lists.Tie as tie
 
@@ -26,7 +27,7 @@ inside : (c : tie.In-loop Inv-loop μ-loop)
 inside c =
     let l = c .before in
     let a = l .before .before .before .args in
-    ahead-within _ (now (a .lengths)) (now (a .lists)) _ _ (l .loop .inv) (c .loop-test .taken)
+    gone-within (now (a .lengths)) (now (a .lists)) _ _ (l .loop .inv .gone) (c .loop-test .taken)
 
 mul-end : tie.Need-mul-end Inv-loop μ-loop
 mul-end c = search needs

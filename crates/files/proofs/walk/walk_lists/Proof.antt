@@ -6,9 +6,10 @@ use mathlib.Core.Path.{_≡_, refl}
 use lib.ListN.{length, getD}
 use denote.Ref.{now}
 use Rattle.joined.specs.Lists.{parts}
+use Rattle.joined.proofs.Laws.Lists.{gone-within}
 use Rattle.plans.proofs.Laws.Shifts.{shifts-some}
 use Rattle.files.specs.Inner.{Resolvable}
-use Rattle.files.proofs.Laws.Walk.{Walked, walked-start, walked-within, walked-holds, walked-room, walked-more, walked-end, walked-low}
+use Rattle.files.proofs.Laws.Walk.{Walked, walked-start, walked-holds, walked-room, walked-more, walked-end, walked-low}
 use Rattle.files.proofs.Laws.Rooms.{room-kept, all-accepted}
 use borrow.Author.Needs.{needs}
 use Rattle.files.proofs.walk.walk_lists.Statement.{statement}
@@ -33,7 +34,7 @@ inside : (c : tie.In-loop Inv-loop μ-loop)
     → let l = c .before in
     let a = l .before .before .before .before .before .before .before .before .before .before .args in
     l .loop .at + getD (now (a .lengths)) (l .loop .k) 0 ≤ length (now (a .lists))
-inside c = walked-within _ _ _ _ _ _ _ _ _ _ _ _ _ (c .before .loop .inv .0) (c .loop-test .taken)
+inside c = gone-within _ _ _ _ (c .before .loop .inv .0 .gone) (c .loop-test .taken)
 
 mul-stop : tie.Need-mul-stop Inv-loop μ-loop
 mul-stop c = search needs
