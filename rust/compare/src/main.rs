@@ -18,6 +18,7 @@ mod joined;
 mod lent;
 mod lists;
 mod marks;
+mod most;
 mod mutate;
 mod null;
 mod numbers;

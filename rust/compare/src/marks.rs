@@ -1,8 +1,9 @@
-//! Kinds of lists, of seeking, of pairs of lists and of reads across chunks that random calls must
-//! have met, each counted in a table of its own.
+//! Kinds of lists, of plans, of seeking, of pairs of lists and of reads across chunks that random
+//! calls must have met, each counted in a table of its own.
 
 mod files;
 mod history;
+mod plans;
 mod seeking;
 
 use std::collections::HashSet;
@@ -40,6 +41,7 @@ pub fn count(tally: &mut Tally, call: &Call, refusal: u64) {
     seeking::count(tally, call);
     history::count(tally, call, refusal);
     files::count(tally, call, refusal);
+    plans::count(tally, call, refusal);
     let Some(list) = call.list() else {
         return;
     };
@@ -56,6 +58,7 @@ pub fn missed(tally: &Tally) -> Vec<String> {
     let said =
         |(mark, call): (&Mark, &str)| format!("no {call} of {} gives {}", mark.name, mark.met);
     let others = seeking::missed(tally).chain(history::missed(tally)).chain(files::missed(tally));
+    let others = others.chain(plans::missed(tally));
     missed.map(said).chain(others).collect()
 }
 

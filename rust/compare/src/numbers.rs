@@ -1,6 +1,6 @@
 //! Numbers that calls take: mostly sensible, often at an edge, sometimes far off.
 
-use second::limits::{CHUNK, RECORD};
+use second::limits::{CHUNK, INDEX_MAX, RECORD};
 use second::Record;
 
 use rng::Rng;
@@ -129,10 +129,11 @@ pub fn block_length(rng: &mut Rng) -> u64 {
 
 /// The index that pieces carry: mostly one of 32 bits.
 pub fn chunk_index(rng: &mut Rng) -> u64 {
-    if rng.once_in(6) {
-        return index(rng);
+    match rng.below(24) {
+        0..=3 => index(rng),
+        4 | 5 => INDEX_MAX,
+        _ => rng.below(1 << 32) >> rng.below(32),
     }
-    rng.below(1 << 32) >> rng.below(32)
 }
 
 pub fn index(rng: &mut Rng) -> u64 {

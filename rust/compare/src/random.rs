@@ -2,7 +2,7 @@
 
 use crate::call::{Call, Room};
 use crate::tally::Tally;
-use crate::{files, history, lists, marks, mutate, numbers, texts, views};
+use crate::{files, history, lists, marks, most, mutate, numbers, texts, views};
 use rng::Rng;
 
 const ORIGIN: &str = "random";
@@ -11,7 +11,10 @@ const ORIGIN: &str = "random";
 pub fn run(tally: &mut Tally, seed: u64, calls: u64) {
     let mut rng = Rng::new(seed);
     while tally.compared() < calls {
-        let call = any_call(&mut rng);
+        let mut call = any_call(&mut rng);
+        if rng.once_in(4) {
+            most::lend(&mut rng, &mut call);
+        }
         let refusal = tally.compare(ORIGIN, &call);
         marks::count(tally, &call, refusal);
     }

@@ -1,14 +1,16 @@
 //! Kinds of reads across chunks that random calls must have met, each counted in a table of its own.
 
-use second::limits::{CHUNK, INDEX_MAX, PIECE};
+use second::limits::{CHUNK, INDEX_MAX, PIECE, RECORD};
 use second::{file_plan_bytes, ListRefusal, Location, Piece};
 
 use crate::call::{Call, Room};
 use crate::joined::Joined;
+use crate::most;
 use crate::refused::NUMBERS;
 use crate::tally::Tally;
 
 mod refused;
+mod seen;
 
 /// A call of `file_plan`, and what the second program says of it.
 struct Asked<'a> {
@@ -16,6 +18,8 @@ struct Asked<'a> {
     start: u64,
     count: u64,
     out: Room,
+    /// As much as the plan can need at most.
+    much_room: bool,
     plan: Result<Vec<Piece>, ListRefusal>,
 }
 
@@ -28,7 +32,7 @@ struct Mark {
 
 const ANSWERED: &[u64] = &[0];
 
-const MARKS: [Mark; 19] = [
+const MARKS: [Mark; 20] = [
     Mark { name: "file, zeros at an edge", is: zeros_at_an_edge, met: ANSWERED },
     Mark { name: "file, object over an edge", is: object_over_an_edge, met: ANSWERED },
     Mark { name: "file, two objects at edge", is: two_objects_at_an_edge, met: ANSWERED },
@@ -61,9 +65,10 @@ const MARKS: [Mark; 19] = [
     },
     Mark {
         name: "file, much room",
-        is: |a| a.reads() && matches!(a.out, Room::Longer(_)),
+        is: |a| a.much_room && a.reads() && a.lists_of(1) > 1,
         met: ANSWERED,
     },
+    Mark { name: "file, records of two lists", is: seen::of_two_lists, met: ANSWERED },
 ];
 
 fn all() -> impl Iterator<Item = &'static Mark> {
@@ -77,8 +82,10 @@ pub fn count(tally: &mut Tally, call: &Call, refusal: u64) {
     };
     let (start, count, out) = (*start, *count, *out);
     let plan = file_plan_bytes(&file.file(), *block_size, start, count);
+    let lent = out.bytes(plan.as_ref().map_or(0, Vec::len));
+    let much_room = lent >= most::bytes(call);
     let plan = plan.map(|bytes| bytes.chunks(PIECE).map(Piece::from_bytes).collect());
-    let asked = Asked { file, start, count, out, plan };
+    let asked = Asked { file, start, count, out, much_room, plan };
     for mark in all().filter(|mark| (mark.is)(&asked)) {
         tally.mark(mark.name, call.name(), refusal);
     }
@@ -101,6 +108,11 @@ impl Asked<'_> {
         !self.pieces().is_empty()
     }
 
+    /// How many lists have so many records, or more.
+    fn lists_of(&self, records: u64) -> usize {
+        self.file.lengths.iter().filter(|length| **length >= records * RECORD as u64).count()
+    }
+
     /// How many chunks the plan reads of.
     fn chunks(&self) -> u64 {
         match self.pieces() {
@@ -116,21 +128,11 @@ impl Asked<'_> {
         pairs.filter(|(before, behind)| before.index != behind.index)
     }
 
-    /// The file's end, counted from the first list's chunk.
-    fn file_end(&self) -> u64 {
-        self.file.file_len.saturating_sub(self.file.first_index.saturating_mul(CHUNK))
-    }
-
-    /// How many bytes the lists' chunks have.
-    fn of_lists(&self) -> u64 {
-        self.file.lengths.len() as u64 * CHUNK
-    }
-
     /// The plan goes up to the file's end, which lies before the last list's, and was asked further.
     fn is_cut_to_file(&self) -> bool {
-        let end = self.file_end();
+        let end = self.file.file_end();
         let cut = u128::from(self.start) + u128::from(self.count) > u128::from(end);
-        self.reads() && end < self.of_lists() && cut
+        self.reads() && end < self.file.of_lists() && cut
     }
 }
 
@@ -168,30 +170,32 @@ fn last_index(a: &Asked) -> bool {
 }
 
 fn ends_in_the_last(a: &Asked) -> bool {
-    let last = a.of_lists().saturating_sub(CHUNK);
-    a.is_cut_to_file() && a.file_end() > last && !a.file_end().is_multiple_of(CHUNK)
+    let last = a.file.of_lists().saturating_sub(CHUNK);
+    a.is_cut_to_file() && a.file.file_end() > last && !a.file.file_end().is_multiple_of(CHUNK)
 }
 
 fn ends_earlier(a: &Asked) -> bool {
-    a.is_cut_to_file() && a.file_end() + CHUNK < a.of_lists() && !a.file_end().is_multiple_of(CHUNK)
+    a.is_cut_to_file()
+        && a.file.file_end() + CHUNK < a.file.of_lists()
+        && !a.file.file_end().is_multiple_of(CHUNK)
 }
 
 fn ends_at_an_edge(a: &Asked) -> bool {
-    a.is_cut_to_file() && a.file_end().is_multiple_of(CHUNK)
+    a.is_cut_to_file() && a.file.file_end().is_multiple_of(CHUNK)
 }
 
 fn ends_before(a: &Asked) -> bool {
     let far = a.file.file_len < a.file.first_index.saturating_mul(CHUNK);
-    a.plan.is_ok() && far && a.start < a.of_lists() && a.count > 0
+    a.plan.is_ok() && far && a.start < a.file.of_lists() && a.count > 0
 }
 
 fn longer_than_lists(a: &Asked) -> bool {
     let asked = u128::from(a.start) + u128::from(a.count);
-    a.reads() && a.file_end() > a.of_lists() && asked > u128::from(a.of_lists())
+    a.reads() && a.file.file_end() > a.file.of_lists() && asked > u128::from(a.file.of_lists())
 }
 
 fn past_the_end(a: &Asked) -> bool {
-    let end = a.file_end().min(a.of_lists());
+    let end = a.file.file_end().min(a.file.of_lists());
     a.plan.is_ok() && end > 0 && a.start >= end && a.count > 0
 }
 

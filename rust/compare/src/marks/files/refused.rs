@@ -84,18 +84,6 @@ impl Asked<'_> {
         let here = |number| place.map_or(middle(number), |place| number == place);
         lists > 1 && self.refused().is_some_and(here)
     }
-
-    /// The lists by themselves, of lengths that add up.
-    fn lists(&self) -> Vec<&[u8]> {
-        let mut rest = &self.file.lists[..];
-        let mut lists = Vec::new();
-        for length in &self.file.lengths {
-            let (list, behind) = rest.split_at(*length as usize);
-            lists.push(list);
-            rest = behind;
-        }
-        lists
-    }
 }
 
 fn last_refused(a: &Asked) -> bool {
@@ -104,7 +92,7 @@ fn last_refused(a: &Asked) -> bool {
 
 /// Some bytes are asked for, and all of them lie in other chunks than the refused list's.
 fn not_read(a: &Asked) -> bool {
-    let asked = a.count > 0 && a.start < a.file_end().min(a.of_lists());
+    let asked = a.count > 0 && a.start < a.file.file_end().min(a.file.of_lists());
     let end = u128::from(a.start) + u128::from(a.count);
     let apart = |number: usize| {
         let chunk = number as u64 * CHUNK;
@@ -119,7 +107,7 @@ fn two_refused(a: &Asked) -> bool {
     let Some(first) = a.refused() else {
         return false;
     };
-    let lists = a.lists();
+    let lists = a.file.each();
     let told = number(lists[first]);
     lists[first + 1..].iter().any(|list| ![0, told].contains(&number(list)))
 }
