@@ -15,6 +15,9 @@ use faulty::{faulty_list, FIRST_ID};
 
 /// The written order; 3 to 6 stand for the first bad record.
 const ORDER: [u64; 15] = [7, 21, 8, 1, 2, 3, 4, 5, 6, 16, 10, 9, 13, 11, 12];
+const ORIGIN: &str = "combinations of refusals";
+/// They have one refusal, 13, and so no combinations.
+const READERS: [&str; 4] = ["read_object_name", "read_full_name", "read_redis_key", "read_tkv_key"];
 const BLOCK_SIZE: u64 = 65_536;
 const NEW_ID: u64 = 99;
 
@@ -71,9 +74,18 @@ pub fn run(tally: &mut Tally) {
     seeking::run(tally);
 }
 
+/// Every call that has combinations must have met what it meets elsewhere.
+pub fn reach(tally: &mut Tally) {
+    for (call, number) in tally.missed(ORIGIN) {
+        if !READERS.contains(&call) {
+            tally.difference(ORIGIN, &format!("none is a {call} that gives {number}"));
+        }
+    }
+}
+
 /// Compares the call and tests that the second program keeps the order too.
 pub fn expect(tally: &mut Tally, call: &Call, refusal: u64) {
-    let got = tally.compare("combinations of refusals", call);
+    let got = tally.compare(ORIGIN, call);
     if got != refusal {
         let what = format!("the second program refuses with {got}, the order says {refusal}");
         tally.difference(&format!("{call:x?}"), &what);

@@ -50,6 +50,8 @@ fn main() {
     combinations::run(&mut tally);
     null::run(&mut tally);
     random::run(&mut tally, seed, calls);
+    combinations::reach(&mut tally);
+    null::reach(&mut tally);
     if calls >= CALLS {
         random::reach(&mut tally);
     }

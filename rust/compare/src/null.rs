@@ -11,6 +11,7 @@ use second::File;
 use crate::expected::{across, answered, chunk_key, compacted, found, object, part};
 use crate::tally::Tally;
 
+const ORIGIN: &str = "null pointers";
 const BLOCK: u64 = 65_536;
 
 /// Safe because a call touches no byte of an input or buffer of length 0.
@@ -60,6 +61,13 @@ pub fn run(tally: &mut Tally) {
     }
 }
 
+/// Every call must have been made.
+pub fn reach(tally: &mut Tally) {
+    for call in tally.left_out(ORIGIN) {
+        tally.difference(ORIGIN, &format!("none is a {call}"));
+    }
+}
+
 /// The lengths are null where there are none.
 fn files(tally: &mut Tally) {
     for (lengths, file_len) in
@@ -77,7 +85,7 @@ fn files(tally: &mut Tally) {
 
 fn same<T: Debug + PartialEq>(tally: &mut Tally, call: &'static str, got: T, want: (u64, T)) {
     let (refusal, want) = want;
-    tally.count("null pointers", call, refusal);
+    tally.count(ORIGIN, call, refusal);
     if got != want {
         let what = format!("archive {got:?}, second program {want:?}");
         tally.difference(&format!("{call} with null pointers"), &what);

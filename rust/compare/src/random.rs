@@ -20,8 +20,8 @@ pub fn run(tally: &mut Tally, seed: u64, calls: u64) {
     }
 }
 
-/// Random calls must meet every refusal that the chosen calls do, and every kind of list, of
-/// seeking, of pair and of read across chunks that is marked; else they are too tame.
+/// Random calls must meet every refusal that the chosen calls do, and every kind of list, of plan,
+/// of seeking, of pair and of read across chunks that is marked; else they are too tame.
 pub fn reach(tally: &mut Tally) {
     for missed in marks::missed(tally) {
         tally.difference("random calls", &missed);

@@ -69,6 +69,12 @@ impl Tally {
         all.difference(&here).copied().collect()
     }
 
+    /// The calls that were compared elsewhere and never under this origin.
+    pub fn left_out(&self, origin: &str) -> BTreeSet<&'static str> {
+        let here = |call: &&str| self.origins.get(origin).is_some_and(|of| of.contains_key(call));
+        self.origins.values().flat_map(BTreeMap::keys).copied().filter(|call| !here(call)).collect()
+    }
+
     pub fn difference(&mut self, call: &str, what: &str) {
         self.differences += 1;
         if self.differences <= SHOWN {
