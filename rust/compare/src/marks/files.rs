@@ -109,8 +109,9 @@ impl Asked<'_> {
     }
 
     /// How many lists have so many records, or more.
-    fn lists_of(&self, records: u64) -> usize {
-        self.file.lengths.iter().filter(|length| **length >= records * RECORD as u64).count()
+    fn lists_of(&self, records: usize) -> usize {
+        let long = |length: &&u64| **length >= (records * RECORD) as u64;
+        self.file.lengths.iter().filter(long).count()
     }
 
     /// How many chunks the plan reads of.

@@ -7,14 +7,17 @@ use second::{Piece, Record};
 
 use super::Asked;
 
-/// Two lists or more show two records or more each.
+/// Two that `files::over_edges` may have laid into a list, and two of its own.
+const SEVERAL: usize = 4;
+
+/// Two lists or more show several records each.
 pub fn of_two_lists(a: &Asked) -> bool {
-    if !a.reads() || a.lists_of(2) < 2 {
+    if !a.reads() || a.lists_of(SEVERAL) < 2 {
         return false;
     }
     let lists = a.file.each();
     let shown: HashSet<_> = a.pieces().iter().filter_map(|piece| shown(a, &lists, piece)).collect();
-    let several = |list: &usize| shown.iter().filter(|(of, _)| of == list).count() > 1;
+    let several = |list: &usize| shown.iter().filter(|(of, _)| of == list).count() >= SEVERAL;
     (0..lists.len()).filter(several).count() > 1
 }
 
