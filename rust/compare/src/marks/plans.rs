@@ -11,8 +11,9 @@ use crate::tally::Tally;
 struct Asked<'a> {
     call: &'a Call,
     index: u64,
-    /// How many records the list has.
+    /// How many records the list has, and of how many first ones the plan is.
     records: u64,
+    first: u64,
     /// Bytes lent for the plan.
     lent: usize,
 }
@@ -30,7 +31,7 @@ const MARKS: [Mark; 4] = [
     Mark { name: "plan, much room", is: much_room, calls: BOTH },
     Mark { name: "plan, index above 2^24", is: |a| a.index > 1 << 24, calls: BOTH },
     Mark { name: "plan, the last index", is: |a| a.index == INDEX_MAX, calls: BOTH },
-    Mark { name: "plan, of some records", is: of_some_records, calls: &["compact"] },
+    Mark { name: "plan, of some records", is: |a| a.first < a.records, calls: &["compact"] },
 ];
 
 /// Counts a call under every mark that its plan has.
@@ -51,26 +52,22 @@ pub fn missed(tally: &Tally) -> impl Iterator<Item = String> + '_ {
 }
 
 fn asked(call: &Call) -> Option<Asked<'_>> {
-    let (index, plan, room) = match call {
+    let records = (call.list()?.len() / RECORD) as u64;
+    let (index, first, plan, room) = match call {
         Call::ReadPlan { list, index, chunk_len, block_size, start, count, out } => {
             let plan = read_plan_bytes(list, *index, *chunk_len, *block_size, *start, *count);
-            (*index, plan.ok()?, out)
+            (*index, records, plan.ok()?, out)
         }
         Call::Compact { list, index, block_size, k, new_id, plan: out, .. } => {
-            (*index, compact_bytes(list, *index, *block_size, *k, *new_id).ok()?.0, out)
+            (*index, *k, compact_bytes(list, *index, *block_size, *k, *new_id).ok()?.0, out)
         }
         _ => return None,
     };
-    let records = (call.list()?.len() / RECORD) as u64;
-    (!plan.is_empty()).then(|| Asked { call, index, records, lent: room.bytes(plan.len()) })
+    let lent = room.bytes(plan.len());
+    (!plan.is_empty()).then_some(Asked { call, index, records, first, lent })
 }
 
 /// As much as the plan of several records can need at most.
 fn much_room(a: &Asked) -> bool {
-    a.records > 1 && a.lent >= most::bytes(a.call)
-}
-
-/// Some first records, and neither none nor all.
-fn of_some_records(a: &Asked) -> bool {
-    matches!(a.call, Call::Compact { k, .. } if (1..a.records).contains(k))
+    a.first > 1 && a.lent >= most::bytes(a.call)
 }
