@@ -15,8 +15,8 @@
  * 16; for all others it is 0. Where several fit, the first in this order is given:
  * 7, 21, 8, 1, 2, then the first bad record and in it 3, 4, 5, 6; then 16, 10, 9, 13, 11, 12.
  * ezk_added goes through it once for the older list, and only then for the newer.
- * ezk_file_plan goes through 1 to 6 and 16 list by list: the first refused list in chunk
- * order decides, and its place is counted in its own list.
+ * ezk_file_plan and ezk_next_file_piece go through 1 to 6 and 16 list by list: the first
+ * refused list in chunk order decides, and its place is counted in its own list.
  * A block size is allowed if it is a power of two from 65,536 to 16,777,216.
  *
  *   EZK_LIST_LENGTH     1  list length is no multiple of 24
@@ -69,7 +69,7 @@ enum {
 
 /*
  * Bytes of a chunk, of a slice record, of a piece of a plan, and of a TKV chunk key; and the
- * most lists that ezk_file_plan takes.
+ * most lists that a call on a file takes.
  */
 enum {
     EZK_CHUNK = 67108864,
@@ -131,6 +131,39 @@ typedef struct ezk_file_answer {
     uint64_t index; /* chunk index of the refused list, for 1 to 6 and 16; else 0 */
     uint64_t count; /* bytes written */
 } ezk_file_answer;
+
+/* What ezk_next_piece returns. */
+typedef struct ezk_next {
+    uint64_t refusal;
+    uint64_t place;
+    uint64_t finished;  /* 1 if no byte of the read is left, else 0, also on a refusal */
+    uint64_t next;      /* the next place; once finished, the place that was given */
+    uint64_t mark;      /* from here on the piece: 0x5242 for "RB", 0x525A for "RZ" */
+    uint64_t index;     /* of its chunk */
+    uint64_t at;        /* its place in the read, which is the place that was given */
+    uint64_t id;        /* this and the next three are 0 for "RZ" */
+    uint64_t block;
+    uint64_t block_len;
+    uint64_t in_block;  /* place in block */
+    uint64_t len;
+} ezk_next;
+
+/* What ezk_next_file_piece returns. */
+typedef struct ezk_file_next {
+    uint64_t refusal;
+    uint64_t place;
+    uint64_t list_index; /* chunk index of the refused list, for 1 to 6 and 16; else 0 */
+    uint64_t finished;   /* from here on as in ezk_next */
+    uint64_t next;
+    uint64_t mark;
+    uint64_t index;
+    uint64_t at;
+    uint64_t id;
+    uint64_t block;
+    uint64_t block_len;
+    uint64_t in_block;
+    uint64_t len;
+} ezk_file_next;
 
 /* What compaction returns. */
 typedef struct ezk_compacted {
@@ -266,6 +299,46 @@ ezk_file_answer ezk_file_plan(const uint8_t *lists, size_t lists_len, const uint
                               size_t lengths_count, uint64_t first_index, uint64_t file_len,
                               uint64_t block_size, uint64_t start, uint64_t count,
                               uint8_t *out, size_t out_len);
+
+/*
+ * Gives the plan of ezk_read_plan piece by piece, for a caller who has no room for it all. The
+ * place is a value that the caller keeps: at is how many bytes of the read are already handed
+ * out, 0 at first. The answer is the piece that comes next, and next, the place to pass then. If
+ * nothing is left, finished is 1, next is at, and there is no piece. From place 0 on, with the
+ * other inputs unchanged, the pieces are those of ezk_read_plan, in order.
+ *
+ *     for (at = 0;; at = piece.next) {
+ *         piece = ezk_next_piece(list, list_len, index, chunk_len, block_size, start, count, at);
+ *         if (piece.refusal || piece.finished)
+ *             break;
+ *         ...
+ *     }
+ *
+ * Any number is a place. One inside a piece gives the rest of it: at is the place given, and the
+ * place in block and the length are moved by the bytes of the piece before it. One at or past the
+ * end of the read is finished, and so is every later one. The read is always start and count as
+ * they were given at first: only at moves.
+ *
+ * Each call checks the whole list, so that a refusal comes also where the read is finished.
+ * Nothing is written, so there is no refusal 12. On a refusal next is 0 too: test refusal first.
+ * A piece usually takes one pass over the list beside the check. One that joins parts of several
+ * records, such as a hole and zeros, takes as long as a read plan of few pieces.
+ * Refusals, in order: 7, 21, 8, 1, 2, 3 to 6, 16.
+ */
+ezk_next ezk_next_piece(const uint8_t *list, size_t list_len, uint64_t index, uint64_t chunk_len,
+                        uint64_t block_size, uint64_t start, uint64_t count, uint64_t at);
+
+/*
+ * The same for a read across the chunks of a file: gives the plan of ezk_file_plan piece by
+ * piece. All but at is passed as to ezk_file_plan, and at is the place in the whole read, through
+ * all chunks. Every list is checked at each call, also one that the piece does not touch;
+ * list_index tells which was refused.
+ * Refusals, in order: 21, 8, then list by list 1, 2, 3 to 6, 16.
+ */
+ezk_file_next ezk_next_file_piece(const uint8_t *lists, size_t lists_len, const uint64_t *lengths,
+                                  size_t lengths_count, uint64_t first_index, uint64_t file_len,
+                                  uint64_t block_size, uint64_t start, uint64_t count,
+                                  uint64_t at);
 
 /*
  * Writes the plan that copies the first k records into the new slice new_id, and the new
