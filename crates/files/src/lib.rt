@@ -1,5 +1,5 @@
 // Reads across the chunks of a file.
-mod parts;
+pub mod parts;
 mod rooms;
 mod walk;
 
@@ -41,7 +41,7 @@ pub(crate) fn refused(number: u8) -> FileAnswer
 }
 
 // Whether the lists are too many or none, their lengths do not add up, or an index is past 32 bits. No sum is made that could wrap.
-fn wrong_chunks(lists: &[u8], lengths: &[u64], first: u64) -> bool
+pub fn wrong_chunks(lists: &[u8], lengths: &[u64], first: u64) -> bool
     ensures { λ r. ⌜ r ≡ wrongChunks (now (lengths .entry)) (length (now (lists .entry))) first ⌝ }
 {
     let n = lengths.len();
@@ -58,7 +58,7 @@ fn wrong_chunks(lists: &[u8], lengths: &[u64], first: u64) -> bool
 }
 
 // Where a read over so many lists ends at the latest: at the file's end, or at the last list's.
-fn file_end(first: u64, file_len: u64, lists: usize) -> u64
+pub fn file_end(first: u64, file_len: u64, lists: usize) -> u64
     requires { ⌜ (first ≤ maxIndex) × (lists ≤ maxLists) ⌝ }
     ensures { λ r. ⌜ r ≡ fileEnd first «file_len» lists ⌝ }
 {

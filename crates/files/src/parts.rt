@@ -17,7 +17,7 @@ fn past_start(p: u32, k: u32) -> u32
 }
 
 // Of the positions from `from` up to `end`, those of chunk k, counted from its beginning.
-pub(crate) fn part(from: u32, end: u32, k: u32) -> Span
+pub fn part(from: u32, end: u32, k: u32) -> Span
     requires { ⌜ k < maxLists ⌝ }
     ensures { λ r. ⌜ (r .from ≡ partFrom from k) × (r .end ≡ partEnd end k) ⌝ }
 {

@@ -1,8 +1,8 @@
 // Where the bytes of a read lie, in maximal pieces.
 mod bytes;
-mod locations;
+pub mod locations;
 mod objects;
-mod reach;
+pub mod reach;
 pub mod rooms;
 mod shifts;
 pub mod walk;

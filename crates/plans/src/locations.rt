@@ -13,7 +13,7 @@ ghost use Rattle.plans.specs.Inner.{Inside, InBlock};
 ghost use Rattle.plans.specs.declared.Location.the-variants as locations;
 
 // Where a source lies: only the bytes of a slice lie in an object.
-pub(crate) fn location_of(s: Source, block: u32) -> Location
+pub fn location_of(s: Source, block: u32) -> Location
     requires { ⌜ Inside s ⌝ }
     requires { ⌜ 0 < block ⌝ }
     ensures { λ r. ⌜ r ≡ location block s ⌝ }

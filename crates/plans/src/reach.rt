@@ -18,8 +18,23 @@ ghost use Rattle.runs.specs.Runs.{Stops};
 ghost use Rattle.plans.specs.Inner.{Shifts};
 ghost use Rattle.plans.specs.Location.{locationAt, nextLocation, onward};
 
-// A position behind p, and at most `end`, up to which the locations go on from p, which segment k holds. In front of the segment's end it is
-// the end of a block.
+// A position behind p, and at most e, up to which the locations go on from p, where the record `top` lies on top of the positions up to e. In front
+// of e it is the end of a block.
+pub fn same_top_to(list: &[u8], top: u16, p: u32, e: u32, block: u32, bits: u32) -> u32
+    requires { ⌜ All Passes (records (now list)) ⌝ }
+    requires { ⌜ (p < e) × Shifts block bits ⌝ }
+    requires { ⌜ OnTop (now list) top p e ⌝ }
+    ensures { λ r. ⌜ Unbroken nextLocation (locationAt block (records (now (list .entry)))) p e r ⌝ }
+    ensures { λ r. ⌜ (r < e → Stops nextLocation (locationAt block (records (now (list .entry)))) r e) ⌝ }
+{
+    if shifts::is_none(tops::id_on(list, top), block, bits) {
+        return e;
+    }
+    let off = tops::off_in(list, tops::wide(top) - 1, p);
+    p + shifts::in_block(off, block, bits, e - p)
+}
+
+// The same in segment k, which holds p, and at most `end`.
 fn same_block_to(
     list: &[u8],
     marks: &[u32],
@@ -38,16 +53,11 @@ fn same_block_to(
     ensures { λ e. ⌜ (e < getD (now (marks .entry)) (k + 1) 0 → Stops nextLocation (locationAt block (records (now (list .entry)))) e end) ⌝ }
 {
     let e = segments::until(marks, k, end);
-    let top = tops[k];
-    if shifts::is_none(tops::id_on(list, top), block, bits) {
-        return e;
-    }
-    let off = tops::off_in(list, tops::wide(top) - 1, p);
-    p + shifts::in_block(off, block, bits, e - p)
+    same_top_to(list, tops[k], p, e, block, bits)
 }
 
 // Whether the piece from p on, with the record a on top of p, goes on at e, with b on top of it; id is a's. Most often the ids tell.
-fn joins(list: &[u8], id: u64, a: u16, p: u32, b: u16, e: u32, block: u32) -> bool
+pub fn joins(list: &[u8], id: u64, a: u16, p: u32, b: u16, e: u32, block: u32) -> bool
     requires { ⌜ All Passes (records (now list)) ⌝ }
     requires { ⌜ (p < e) × (0 < block) × (id ≡ idOn (now list) a) ⌝ }
     requires { ⌜ OnTop (now list) a p (p + 1) ⌝ }
@@ -66,7 +76,7 @@ fn joins(list: &[u8], id: u64, a: u16, p: u32, b: u16, e: u32, block: u32) -> bo
 }
 
 // Where the maximal run of locations, of the positions from p up to `end`, that starts at p ends, and in which segment; segment k holds p.
-pub(crate) fn reach(
+pub fn reach(
     list: &[u8],
     marks: &[u32],
     tops: &[u16],

@@ -4,25 +4,25 @@ use native.Mathlib.Omega.{arith}
 use native.Mathlib.Nat.{suc-mul, div-add-mod', mul-mod-left, mod-lt}
 use mathlib.Core.Path.{_≡_, refl, sym, ap, _∙_}
 use mathlib.Core.Bool.{true, false}
-use mathlib.Core.Logic.{_≢_, ⊎-elim}
+use mathlib.Core.Logic.{_≢_}
 use mathlib.Core.List.{List}
-use lib.ListN.{length, getD}
+use lib.ListN.{length}
 use Rattle.codec.specs.All.{All}
 use Rattle.slices.specs.Cover.{cover, given}
 use Rattle.slices.specs.Passes.{Passes}
-use Rattle.slices.specs.Limits.{recordSize, chunk}
+use Rattle.slices.specs.Limits.{recordSize}
 use Rattle.slices.specs.Record.{recordAt, records, count}
 use Rattle.slices.proofs.Laws.Record.{records-at}
 use Rattle.slices.proofs.Laws.Cover.{given-byte}
 use Rattle.slices.proofs.Laws.Sources.{cover-real}
-use Rattle.resolve.specs.Resolved.{OnTop, Resolved, Holds}
-use Rattle.resolve.specs.Sweep.{Lesser}
+use Rattle.resolve.specs.Resolved.{OnTop}
 use Rattle.resolve.specs.Tops.{idOn}
-use Rattle.resolve.proofs.Laws.Resolved.{source-some, resolved-at}
+use Rattle.resolve.proofs.Laws.Resolved.{source-some}
 use Rattle.resolve.proofs.Laws.Tops.{id-cover}
 use Rattle.runs.specs.Inner.{Unbroken}
 use Rattle.runs.specs.Runs.{Parts, Stops}
 use Rattle.views.specs.View.{next}
+use Rattle.views.proofs.Laws.Segments.{top-joins}
 use Rattle.plans.specs.Inner.{markOf}
 use Rattle.plans.specs.Piece.{objectMark}
 use Rattle.plans.specs.Location.{location, locationAt, nextLocation, onward}
@@ -112,16 +112,24 @@ pub giving-mark : (B : ℕ) (bs : List ℕ) (top p i : ℕ) → Giving bs top p 
 unfolding markOf location
 giving-mark B bs top p i g = rw (given-byte (recordAt bs i) p (g .some))
 
--- ---- a block that ends inside a segment
+-- ---- positions under one record
 
-module _ (B : ℕ) (bs marks tops : List ℕ) (m : ℕ) (r : Resolved bs marks tops m chunk) (k : ℕ) {p : ℕ} (t : Holds marks m k p) (some : 0 < B) where
-  pub block-stops : (i : ℕ) → getD tops k 0 ≡ suc i → recordAt bs i .id ≢ 0 → (end u d : ℕ) → Lesser (getD marks (k + 1) 0) end u
-      → Unbroken next (cover (records bs)) p end u → {o : ℕ} → o ≡ recordAt bs i .off + (p - recordAt bs i .pos) → 0 < d → d ≤ u - p → (d < u - p → d ≡ B - o % B)
-      → p + d < getD marks (k + 1) 0 → Stops nextLocation (locationAt B (records bs)) (p + d) end
-  block-stops i is n end u d s v {o = o} q x y w h j e l =
-      let less : d < u - p = ⊎-elim (λ f. omega (arith, v .some)) (λ f. omega (arith, v .some)) (s .one) in
-      let holds : (g : ℕ) → p ≤ g → g < getD marks (k + 1) 0 → Holds marks m k g = λ g a b. record { inside = t .inside; from = omega (arith, t .from); to = b } in
-      let c = resolved-at bs marks tops m chunk r k p t .covering i is in
-      let f : recordAt bs i .off + (p + d - recordAt bs i .pos) ≡ suc (o / B) * B = omega (arith, c .1, q, w less, div-add-mod' o B, suc-mul (o / B) B, mod-lt o some) in
-      byte-parts B bs (getD tops k 0) (p + d) (resolved-at bs marks tops m chunk r k (p + d) (holds (p + d) (omega arith) h)) i is n j some e
-      (resolved-at bs marks tops m chunk r k j (holds j (omega arith) (omega arith))) (ap (λ (a : ℕ). a % B) f ∙ mul-mod-left (suc (o / B)) B)
+pub top-within : (bs : List ℕ) (top a b : ℕ) → OnTop bs top a b → (c d : ℕ) → a ≤ c → d ≤ b → OnTop bs top c d
+top-within bs top a b t c d l m =
+    record {
+      covering = λ i e. (t .covering i e .0, omega (arith, t .covering i e .1), omega (arith, t .covering i e .2));
+      cover-is = λ q x y. t .cover-is q (omega arith) (omega arith);
+    }
+
+module _ (bs : List ℕ) (top p e : ℕ) (t : OnTop bs top p e) where
+  pub top-unbroken : p < e → Unbroken next (cover (records bs)) p e e
+  top-unbroken l = record { some = l; inside = omega arith; joins = top-joins bs top p e t }
+
+  -- where a block ends among them, the locations part
+  pub block-stops : (B : ℕ) → 0 < B → (i : ℕ) → top ≡ suc i → recordAt bs i .id ≢ 0 → {o : ℕ} → o ≡ recordAt bs i .off + (p - recordAt bs i .pos)
+      → (d : ℕ) → 0 < d → d < e - p → d ≡ B - o % B → Stops nextLocation (locationAt B (records bs)) (p + d) e
+  block-stops B some i is n {o = o} q d x y w j h l =
+      let c = t .covering i is in
+      let f : recordAt bs i .off + (p + d - recordAt bs i .pos) ≡ suc (o / B) * B = omega (arith, c .1, q, w, div-add-mod' o B, suc-mul (o / B) B, mod-lt o some) in
+      byte-parts B bs top (p + d) (top-within bs top p e t (p + d) (p + d + 1) (omega arith) (omega arith)) i is n j some h
+      (top-within bs top p e t j (j + 1) (omega arith) (omega arith)) (ap (λ (a : ℕ). a % B) f ∙ mul-mod-left (suc (o / B)) B)

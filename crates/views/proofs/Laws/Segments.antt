@@ -27,7 +27,7 @@ unfolding sourceOf next
 source-joins bs zero q h = refl
 source-joins bs (suc i) q h = given-next (recordAt bs i) q (h i refl) (ℕ-discrete (recordAt bs i .id) 0)
 
-top-joins : (bs : List ℕ) (top a b : ℕ) → OnTop bs top a b → (q : ℕ) → a ≤ q → suc q < b → Joins next (cover (records bs)) q
+pub top-joins : (bs : List ℕ) (top a b : ℕ) → OnTop bs top a b → (q : ℕ) → a ≤ q → suc q < b → Joins next (cover (records bs)) q
 top-joins bs top a b t q l m =
     rw (t .cover-is q l (omega arith), t .cover-is (suc q) (omega arith) m) (source-joins bs top q (λ i e. omega (arith, t .covering i e .1)))
 
