@@ -37,12 +37,17 @@ fileBytes bs lengths first fileLen B start count = encodePieces (filePlan first 
 abbrev pub deliveredFile : List ℕ → ℕ → OutcomeOf ListRefusal (List ℕ)
 deliveredFile bytes room = firstOf (rowOf 0 (tooShort bytes room) ∷ []) (done bytes)
 
--- 21, 8, list by list 1, 2, 3 to 6, 16, and 12; "0 where no list is at fault"; `room` is the length of the lent buffer
-unfoldable pub fileRows : List ℕ → List ℕ → (first fileLen B start count room : ℕ) → List (RowOf ListRefusal)
-fileRows bs lengths first fileLen B start count room =
+-- 21, 8, list by list 1, 2, 3 to 6, 16: those of every read across chunks; "0 where no list is at fault"
+unfoldable pub chunksRows : List ℕ → List ℕ → (first B : ℕ) → List (RowOf ListRefusal)
+chunksRows bs lengths first B =
     rowOf 0 (row (wrongChunks lengths (length bs) first) number.wrongChunks 0)
     ∷ rowOf 0 (row (blockSizeBad B) number.blockSize 0)
-    ∷ (listsRows first (parts lengths bs) ++ (rowOf 0 (tooShort (fileBytes bs lengths first fileLen B start count) room) ∷ []))
+    ∷ listsRows first (parts lengths bs)
+
+-- and then 12; `room` is the length of the lent buffer
+unfoldable pub fileRows : List ℕ → List ℕ → (first fileLen B start count room : ℕ) → List (RowOf ListRefusal)
+fileRows bs lengths first fileLen B start count room =
+    chunksRows bs lengths first B ++ (rowOf 0 (tooShort (fileBytes bs lengths first fileLen B start count) room) ∷ [])
 
 unfoldable pub fileOutcome : List ℕ → List ℕ → (first fileLen B start count room : ℕ) → OutcomeOf ListRefusal (List ℕ)
 fileOutcome bs lengths first fileLen B start count room =

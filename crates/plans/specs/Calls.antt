@@ -20,13 +20,17 @@ pastIndex index = ltb maxIndex index
 unfoldable pub planBytes : List ℕ → (index l B start count : ℕ) → List ℕ
 planBytes bs index l B start count = chunkBytes index 0 (readPlan B (records bs) l start count)
 
--- 7, 21, 8, 1, 2, 3 to 6, 16, 12; `room` is the length of the lent buffer
-unfoldable pub readRows : List ℕ → (index l B start count room : ℕ) → List Row
-readRows bs index l B start count room =
+-- 7, 21, 8, 1, 2, 3 to 6, 16: those of every read of one chunk
+unfoldable pub chunkRows : List ℕ → (index l B : ℕ) → List Row
+chunkRows bs index l B =
     row (chunkTooLong l) number.chunkTooLong 0
     ∷ row (pastIndex index) number.wrongChunks 0
     ∷ row (blockSizeBad B) number.blockSize 0
-    ∷ (listRows bs ++ (tooShort (planBytes bs index l B start count) room ∷ []))
+    ∷ listRows bs
+
+-- and then 12; `room` is the length of the lent buffer
+unfoldable pub readRows : List ℕ → (index l B start count room : ℕ) → List Row
+readRows bs index l B start count room = chunkRows bs index l B ++ (tooShort (planBytes bs index l B start count) room ∷ [])
 
 unfoldable pub readOutcome : List ℕ → (index l B start count room : ℕ) → Outcome (List ℕ)
 readOutcome bs index l B start count room = firstOf (readRows bs index l B start count room) (done (planBytes bs index l B start count))

@@ -15,7 +15,7 @@ use Rattle.joined.proofs.Laws.Refusals.{none-lists}
 use Rattle.plans.specs.Piece.{piecesIn, storeRuns}
 use Rattle.plans.specs.Plan.{cutTo}
 use Rattle.plans.specs.Store.{Store, fetched}
-use Rattle.files.specs.Calls.{listsIn, fileBytes, fileRows, fileOutcome}
+use Rattle.files.specs.Calls.{listsIn, fileBytes, chunksRows, fileRows, fileOutcome}
 use Rattle.files.specs.File.{fileReads, fileEnd, filePlan}
 use Rattle.files.proofs.Laws.Bytes.{file-plan-back, file-bytes-back}
 use Rattle.files.proofs.Laws.Chunks.{Right, right-chunks}
@@ -31,11 +31,11 @@ module _ (bs ns : List ℕ) (b : Bytes bs) (first fileLen B start count room : �
   out-is = done-is (fileBytes bs ns first fileLen B start count) (fileRows bs ns first fileLen B start count room) out h
 
   right : Right ns (length bs) first
-  unfolding fileRows
+  unfolding fileRows chunksRows
   right = right-chunks ns (length bs) first (no-row .0)
 
   accepted : All Accepts (parts ns bs)
-  unfolding fileRows
+  unfolding fileRows chunksRows
   accepted = none-lists first (parts ns bs) (all-left (λ (r : RowOf ListRefusal). r .test ≡ false) (listsRows first (parts ns bs)) _ (no-row .1 .1))
 
   -- the bytes are read back as the plan

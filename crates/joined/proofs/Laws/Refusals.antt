@@ -145,15 +145,15 @@ lists-refused-exactly i ls r = (
       ∙ ap refused (sym (f .says))),
 )
 
--- ---- what the check tells a call whose table goes on behind the lists
+-- ---- what the check tells a call that goes on behind the lists
 
-module _ {A : Type 0} (i : ℕ) (ls : List (List ℕ)) (rest : List (RowOf ListRefusal)) (o : OutcomeOf ListRefusal A) where
-  pub lists-stops : (r : ListRefusal) → listsOutcome i ls ≡ refused r → firstOf (listsRows i ls ++ rest) o ≡ refused r
+module _ {A : Type 0} (i : ℕ) (ls : List (List ℕ)) (o : OutcomeOf ListRefusal A) where
+  pub lists-stops : (r : ListRefusal) → listsOutcome i ls ≡ refused r → firstOf (listsRows i ls) o ≡ refused r
   unfolding listsOutcome
-  lists-stops r h = firstOf-append (listsRows i ls) rest o ∙ stops (length ls) (listsRows i ls) (firstOf rest o) r h
+  lists-stops r h = stops (length ls) (listsRows i ls) o r h
 
-  pub lists-lets : (n : ℕ) → listsOutcome i ls ≡ done n → firstOf (listsRows i ls ++ rest) o ≡ firstOf rest o
-  lists-lets n h = firstOf-append (listsRows i ls) rest o ∙ accepts-passes i ls (firstOf rest o) (lists-accepted i ls n h)
+  pub lists-lets : (n : ℕ) → listsOutcome i ls ≡ done n → firstOf (listsRows i ls) o ≡ o
+  lists-lets n h = accepts-passes i ls o (lists-accepted i ls n h)
 
 -- ---- what the check's answer tells a call that makes it
 

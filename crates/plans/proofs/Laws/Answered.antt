@@ -16,7 +16,7 @@ use Rattle.slices.proofs.Laws.Refusals.{none-accepts}
 use Rattle.plans.specs.Piece.{inChunk, piecesIn, storeRuns}
 use Rattle.plans.specs.Plan.{cutTo, readPlan}
 use Rattle.plans.specs.Store.{Store, reads, fetched}
-use Rattle.plans.specs.Calls.{planBytes, readRows, readOutcome}
+use Rattle.plans.specs.Calls.{planBytes, chunkRows, readRows, readOutcome}
 use Rattle.plans.proofs.Laws.Fits.{index-fits}
 use Rattle.plans.proofs.Laws.Bytes.{plan-back, plan-bytes-back}
 
@@ -30,15 +30,15 @@ module _ (bs : List ℕ) (b : Bytes bs) (index l B start count room : ℕ) (out 
   out-is = done-is (planBytes bs index l B start count) (readRows bs index l B start count room) out h
 
   passed : All Passes (records bs)
-  unfolding readRows
+  unfolding readRows chunkRows
   passed = none-accepts bs (all-left (λ (r : Row). r .test ≡ false) (listRows bs) _ (no-row .1 .1 .1)) .pass
 
   indexed : index < 2 ^ 32
-  unfolding readRows
+  unfolding readRows chunkRows
   indexed = index-fits index (no-row .1 .0)
 
   short : l ≤ chunk
-  unfolding readRows chunkTooLong
+  unfolding readRows chunkRows chunkTooLong
   short = ltb-false chunk l (no-row .0)
 
   -- each piece has the chunk's index
