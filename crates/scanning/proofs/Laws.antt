@@ -1,2 +1,3 @@
 -- Laws of the definitions of specs/.
+pub mod Last
 pub mod Scan

@@ -18,17 +18,20 @@ pub record Scans (bs : List ℕ) (p end : ℕ) (s : Scanned) : Type 0 where
 
 -- ---- inner: what the steps of the scan find
 
+-- none of the records from i up to n covers q
+abbrev pub Clear : List ℕ → ℕ → ℕ → ℕ → Type 0
+Clear bs i n q = (j : ℕ) → i ≤ j → j < n → covers (recordAt bs j) q ≡ false
+
 -- of the records before i, `top`, counted from 1, is the last that covers p; where it is 0 none does
 pub record LastBefore (bs : List ℕ) (i p top : ℕ) : Type 0 where
   pub within : top ≤ i
   pub covering : (k : ℕ) → top ≡ suc k → covers (recordAt bs k) p ≡ true
-  pub behind : (j : ℕ) → top ≤ j → j < i → covers (recordAt bs j) p ≡ false
+  pub behind : Clear bs top i p
 
--- the records from i on cover no position from p up to `at`, which is no further than `end`; of those, `top`, counted from 1, is the last that
--- covers `at`, where that is not the end
+-- the records from i on cover no position from p up to `at`, which is no further than `end`; where it is not the end, `top`, counted from 1, is the
+-- last record that covers `at`
 pub record Nearest (bs : List ℕ) (i p end at top : ℕ) : Type 0 where
   pub some : p < at
   pub inside : at ≤ end
-  pub clear : (j q : ℕ) → i ≤ j → j < count bs → p ≤ q → q < at → covers (recordAt bs j) q ≡ false
-  pub is : at < end → (k : ℕ) × (top ≡ suc k) × (i ≤ k) × (k < count bs) × (covers (recordAt bs k) at ≡ true)
-  pub behind : at < end → (j : ℕ) → top ≤ j → j < count bs → covers (recordAt bs j) at ≡ false
+  pub clear : (q : ℕ) → p ≤ q → q < at → Clear bs i (count bs) q
+  pub there : at < end → LastBefore bs (count bs) at top

@@ -2,12 +2,11 @@
 use slices::RECORD;
 use slices::records;
 ghost use mathlib.Core.Path.{_≡_};
-ghost use mathlib.Core.Bool.{false};
-ghost use Prim.Native.Nat.{_+_, _-_, _*_, _<_, _≤_};
-ghost use lib.ListN.{length};
+ghost use mathlib.Core.Bool.{true, false};
+ghost use Prim.Native.Nat.{_+_, _<_, _≤_};
 ghost use Rattle.codec.specs.All.{All};
 ghost use Rattle.slices.specs.Cover.{covers};
-ghost use Rattle.slices.specs.Limits.{chunk, maxRecords, recordSize};
+ghost use Rattle.slices.specs.Limits.{chunk, maxRecords};
 ghost use Rattle.slices.specs.Passes.{Passes};
 ghost use Rattle.slices.specs.Record.{recordAt, records, count};
 ghost use Rattle.scanning.specs.Scan.{Scans, LastBefore, Nearest};
@@ -26,27 +25,35 @@ pub struct Near {
     pub top: u16,
 }
 
+// Whether record i covers p.
+fn covers(list: &[u8], i: usize, p: u32) -> bool
+    requires { ⌜ All Passes (records (now list)) ⌝ }
+    requires { ⌜ i < count (now list) ⌝ }
+    ensures { λ r. ⌜ r ≡ covers (recordAt (now (list .entry)) i) p ⌝ }
+{
+    // One comparison: a position in front of the record wraps to a distance past its end.
+    let d = std::num::wrapping_sub_u32(p, records::read_pos(list, i));
+    d < records::read_len(list, i)
+}
+
 // Of the records before i, the last that covers p, counted from 1; 0 where none does.
 fn last_before(list: &[u8], i: usize, p: u32) -> u16
     requires { ⌜ All Passes (records (now list)) ⌝ }
-    requires { ⌜ (i ≤ count (now list)) × (count (now list) ≤ maxRecords) × (p < chunk) ⌝ }
+    requires { ⌜ (i ≤ count (now list)) × (count (now list) ≤ maxRecords) ⌝ }
     ensures { λ r. ⌜ LastBefore (now (list .entry)) i p r ⌝ }
 {
     let mut k = i;
     while 0 < k {
-        // One comparison a record: a position in front of it wraps to a distance past its end.
-        let d = std::num::wrapping_sub_u32(p, records::read_pos(list, k - 1));
-        if d < records::read_len(list, k - 1) {
-            return k as u16;
-        }
         k -= 1;
+        if covers(list, k, p) {
+            return (k + 1) as u16;
+        }
     }
     0
 }
 
 // The nearest that the records from i on cover, by that of the records behind i. Record i does not cover p.
 fn nearer(list: &[u8], i: usize, p: u32, end: u32, near: Near) -> Near
-    requires { ⌜ All Passes (records (now list)) ⌝ }
     requires { ⌜ (i < count (now list)) × (count (now list) ≤ maxRecords) ⌝ }
     requires { ⌜ covers (recordAt (now list) i) p ≡ false ⌝ }
     requires { ⌜ Nearest (now list) (i + 1) p end (near .at) (near .top) ⌝ }
@@ -71,8 +78,8 @@ fn nearer(list: &[u8], i: usize, p: u32, end: u32, near: Near) -> Near
 // Record i is the last that covers p.
 fn found(list: &[u8], i: usize, p: u32, end: u32, near: Near) -> Scanned
     requires { ⌜ All Passes (records (now list)) ⌝ }
-    requires { ⌜ (i < count (now list)) × (count (now list) ≤ maxRecords) × (end ≤ chunk) ⌝ }
-    requires { ⌜ (recordAt (now list) i .pos ≤ p) × (p < recordAt (now list) i .pos + recordAt (now list) i .len) ⌝ }
+    requires { ⌜ (i < count (now list)) × (count (now list) ≤ maxRecords) ⌝ }
+    requires { ⌜ covers (recordAt (now list) i) p ≡ true ⌝ }
     requires { ⌜ Nearest (now list) (i + 1) p end (near .at) (near .top) ⌝ }
     ensures { λ r. ⌜ Scans (now (list .entry)) p end r ⌝ }
 {
@@ -102,8 +109,7 @@ pub fn scan(list: &[u8], p: u32, end: u32) -> Scanned
     let mut i = list.len() / RECORD;
     while 0 < i {
         i -= 1;
-        let d = std::num::wrapping_sub_u32(p, records::read_pos(list, i));
-        if d < records::read_len(list, i) {
+        if covers(list, i, p) {
             return found(list, i, p, end, near);
         }
         near = nearer(list, i, p, end, near);

@@ -1,0 +1,2 @@
+-- Pieces from runs.
+use Prim.Native.Nat.{ℕ}

@@ -1,0 +1,40 @@
+// Where the piece ends that starts at a position.
+use crate::rooms;
+use blocks::bits_of;
+use plans::reach;
+use resolve::tops;
+use scanning::Scanned;
+ghost use mathlib.Core.Path.{_≡_};
+ghost use mathlib.Core.Bool.{true};
+ghost use Prim.Native.Nat.{_<_, _≤_};
+ghost use Rattle.blocks.specs.Blocks.{blockAllowed};
+ghost use Rattle.runs.specs.Inner.{Leads};
+ghost use Rattle.slices.specs.Accepts.{Accepts};
+ghost use Rattle.slices.specs.Limits.{chunk};
+ghost use Rattle.slices.specs.Record.{records};
+ghost use Rattle.scanning.specs.Scan.{Scans};
+ghost use Rattle.plans.specs.Location.{locationAt, nextLocation};
+
+// Where the piece ends that starts at position p, by what a scan found there. Only a piece that joins what several records give needs the whole list
+// resolved.
+pub(crate) fn end_of(list: &[u8], s: Scanned, p: u32, end: u32, block: u32) -> u32
+    requires { ⌜ Accepts (now list) × (blockAllowed block ≡ true) ⌝ }
+    requires { ⌜ (p < end) × (end ≤ chunk) ⌝ }
+    requires { ⌜ Scans (now list) p end s ⌝ }
+    ensures { λ e. ⌜ Leads nextLocation (locationAt block (records (now (list .entry)))) p end (locationAt block (records (now (list .entry))) p) e ⌝ }
+{
+    let bits = bits_of(block);
+    let stop = s.end;
+    let e = reach::same_top_to(list, s.top, p, stop, block, bits);
+    if e < stop {
+        return e;
+    }
+    if end <= e {
+        return e;
+    }
+    let id = tops::id_on(list, s.top);
+    if reach::joins(list, id, s.top, p, s.next, e, block) {
+        return rooms::end_resolved(list, p, end, block, bits);
+    }
+    e
+}

@@ -1,0 +1,84 @@
+// Room to resolve a list in, for a piece that joins what several records give.
+use plans::reach;
+use resolve::segments;
+use slices::RECORD;
+ghost use Prim.Native.Nat.{_<_, _≤_};
+ghost use Rattle.runs.specs.Inner.{Leads};
+ghost use Rattle.slices.specs.Accepts.{Accepts};
+ghost use Rattle.slices.specs.Limits.{chunk};
+ghost use Rattle.slices.specs.Record.{records, count};
+ghost use Rattle.plans.specs.Inner.{Shifts};
+ghost use Rattle.plans.specs.Location.{locationAt, nextLocation};
+ghost use Rattle.files.specs.Inner.{Resolvable};
+
+// Resolves the list, and finds where the piece ends that starts at position p.
+fn end_in(
+    list: &[u8],
+    p: u32,
+    end: u32,
+    block: u32,
+    bits: u32,
+    marks: &mut [u32],
+    tops: &mut [u16],
+    pos: &mut [u64],
+    ends: &mut [u32],
+    order: &mut [u16],
+    spare: &mut [u16],
+) -> u32
+    requires { ⌜ Resolvable (now marks) (now tops) (now pos) (now ends) (now order) (now spare) (now list) ⌝ }
+    requires { ⌜ (p < end) × (end ≤ chunk) × Shifts block bits ⌝ }
+    ensures { λ e. ⌜ Leads nextLocation (locationAt block (records (now (list .entry)))) p end (locationAt block (records (now (list .entry))) p) e ⌝ }
+{
+    let m = resolve::resolve(list, marks, tops, pos, ends, order, spare);
+    let k = segments::find(marks, m, p);
+    let run = reach::reach(list, marks, tops, m, k, p, end, block, bits);
+    run.end
+}
+
+// For at most 256 records.
+fn in_small_room(list: &[u8], p: u32, end: u32, block: u32, bits: u32) -> u32
+    requires { ⌜ Accepts (now list) × (count (now list) ≤ 256) ⌝ }
+    requires { ⌜ (p < end) × (end ≤ chunk) × Shifts block bits ⌝ }
+    ensures { λ e. ⌜ Leads nextLocation (locationAt block (records (now (list .entry)))) p end (locationAt block (records (now (list .entry))) p) e ⌝ }
+{
+    let mut marks = [0u32; 514];
+    let mut tops = [0u16; 513];
+    let mut pos = [0u64; 256];
+    let mut ends = [0u32; 256];
+    let mut order = [0u16; 256];
+    let mut spare = [0u16; 256];
+    end_in(
+        list, p, end, block, bits, &mut marks, &mut tops, &mut pos, &mut ends, &mut order,
+        &mut spare,
+    )
+}
+
+// For all lists that are accepted.
+fn in_large_room(list: &[u8], p: u32, end: u32, block: u32, bits: u32) -> u32
+    requires { ⌜ Accepts (now list) ⌝ }
+    requires { ⌜ (p < end) × (end ≤ chunk) × Shifts block bits ⌝ }
+    ensures { λ e. ⌜ Leads nextLocation (locationAt block (records (now (list .entry)))) p end (locationAt block (records (now (list .entry))) p) e ⌝ }
+{
+    let mut marks = [0u32; 4098];
+    let mut tops = [0u16; 4097];
+    let mut pos = [0u64; 2048];
+    let mut ends = [0u32; 2048];
+    let mut order = [0u16; 2048];
+    let mut spare = [0u16; 2048];
+    end_in(
+        list, p, end, block, bits, &mut marks, &mut tops, &mut pos, &mut ends, &mut order,
+        &mut spare,
+    )
+}
+
+// In the smaller room that does.
+pub(crate) fn end_resolved(list: &[u8], p: u32, end: u32, block: u32, bits: u32) -> u32
+    requires { ⌜ Accepts (now list) ⌝ }
+    requires { ⌜ (p < end) × (end ≤ chunk) × Shifts block bits ⌝ }
+    ensures { λ e. ⌜ Leads nextLocation (locationAt block (records (now (list .entry)))) p end (locationAt block (records (now (list .entry))) p) e ⌝ }
+{
+    if list.len() <= 256 * RECORD {
+        return in_small_room(list, p, end, block, bits);
+    }
+    in_large_room(list, p, end, block, bits)
+}
