@@ -6,7 +6,7 @@ ghost use mathlib.Core.Bool.{true, false};
 ghost use Prim.Native.Nat.{_+_, _<_, _≤_};
 ghost use Rattle.codec.specs.All.{All};
 ghost use Rattle.slices.specs.Cover.{covers};
-ghost use Rattle.slices.specs.Limits.{chunk, maxRecords};
+ghost use Rattle.slices.specs.Limits.{maxRecords};
 ghost use Rattle.slices.specs.Passes.{Passes};
 ghost use Rattle.slices.specs.Record.{recordAt, records, count};
 ghost use Rattle.scanning.specs.Scan.{Scans, LastBefore, Nearest};
@@ -102,7 +102,7 @@ fn found(list: &[u8], i: usize, p: u32, end: u32, near: Near) -> Scanned
 // Scans the list once for position p, and up to `end` for what lies behind it.
 pub fn scan(list: &[u8], p: u32, end: u32) -> Scanned
     requires { ⌜ All Passes (records (now list)) ⌝ }
-    requires { ⌜ (count (now list) ≤ maxRecords) × (p < end) × (end ≤ chunk) ⌝ }
+    requires { ⌜ (count (now list) ≤ maxRecords) × (p < end) ⌝ }
     ensures { λ r. ⌜ Scans (now (list .entry)) p end r ⌝ }
 {
     let mut near = Near { at: end, top: 0 };

@@ -51,5 +51,12 @@ pub(crate) fn piece_in(
     let part = parts::part(p, end, k);
     let from = begins(lists, lengths, k as usize);
     let to = from + lengths[k as usize] as usize;
-    pieces::piece_at(&lists[from..to], first + k, place, part.from, part.end, block)
+    pieces::piece_at(
+        &lists[from..to],
+        first + k,
+        place,
+        part.from,
+        part.end,
+        block,
+    )
 }

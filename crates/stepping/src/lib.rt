@@ -122,8 +122,7 @@ impl Place {
             match joined::check_lists(lists, lengths, first_index) {
                 CheckedLists::Refused(refusal) => FileNext::Refused(refusal),
                 CheckedLists::Accepted(n) => {
-                    let read =
-                        plans::cut(files::file_end(first_index, file_len, n), start, count);
+                    let read = plans::cut(files::file_end(first_index, file_len, n), start, count);
                     if (read.end - read.from) as u64 <= at {
                         return FileNext::Finished;
                     }

@@ -16,6 +16,7 @@ ghost use Rattle.stepping.specs.Inner.{PieceFrom};
 
 // `RB`, the mark of a piece that lies in an object, and `RZ`, that of a piece that reads as zeros.
 const OBJECT: u16 = 0x5242;
+
 const ZEROS: u16 = 0x525a;
 
 // The piece of so many places of a chunk, by where its first byte lies.
@@ -52,14 +53,7 @@ fn piece_of(index: u32, place: u32, len: u32, first: Location) -> Piece
 }
 
 // The piece that starts at position p, and ends at `end` at the latest.
-pub(crate) fn piece_at(
-    list: &[u8],
-    index: u32,
-    place: u32,
-    p: u32,
-    end: u32,
-    block: u32,
-) -> Piece
+pub(crate) fn piece_at(list: &[u8], index: u32, place: u32, p: u32, end: u32, block: u32) -> Piece
     requires { ⌜ Accepts (now list) × (blockAllowed block ≡ true) ⌝ }
     requires { ⌜ (p < end) × (end ≤ chunk) ⌝ }
     ensures { λ r. ⌜ PieceFrom block (records (now (list .entry))) index place p end r ⌝ }

@@ -48,7 +48,16 @@ fn in_small_room(list: &[u8], p: u32, end: u32, block: u32, bits: u32) -> u32
     let mut order = [0u16; 256];
     let mut spare = [0u16; 256];
     end_in(
-        list, p, end, block, bits, &mut marks, &mut tops, &mut pos, &mut ends, &mut order,
+        list,
+        p,
+        end,
+        block,
+        bits,
+        &mut marks,
+        &mut tops,
+        &mut pos,
+        &mut ends,
+        &mut order,
         &mut spare,
     )
 }
@@ -66,7 +75,16 @@ fn in_large_room(list: &[u8], p: u32, end: u32, block: u32, bits: u32) -> u32
     let mut order = [0u16; 2048];
     let mut spare = [0u16; 2048];
     end_in(
-        list, p, end, block, bits, &mut marks, &mut tops, &mut pos, &mut ends, &mut order,
+        list,
+        p,
+        end,
+        block,
+        bits,
+        &mut marks,
+        &mut tops,
+        &mut pos,
+        &mut ends,
+        &mut order,
         &mut spare,
     )
 }

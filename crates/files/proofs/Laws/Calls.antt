@@ -84,6 +84,11 @@ module _ (bs ns : List ℕ) (first fileLen B start count room : ℕ) where
   unfolding fileOutcome fileRows
   file-is = firstOf-append (chunksRows bs ns first B) _ _
 
+  -- and it does not come where there is room
+  pub file-fits : length (fileBytes bs ns first fileLen B start count) ≤ room → outcome ≡ firstOf (chunksRows bs ns first B) (done (fileBytes bs ns first fileLen B start count))
+  unfolding firstOf
+  file-fits l = file-is ∙ ap (firstOf (chunksRows bs ns first B)) (rw (le-ltb room (length (fileBytes bs ns first fileLen B start count)) l))
+
   pub file-21 : wrongChunks ns (length bs) first ≡ true → outcome ≡ refused (ofList 0 (refusal number.wrongChunks 0))
   file-21 h = file-is ∙ chunks-21 bs ns first B _ h
 

@@ -106,7 +106,7 @@ module _ (first B : ℕ) (ls : List (List Record)) (from end : ℕ) where
       ∙ runs-in-chunk (first + k) b (siteFrom first B ls from) (locationFrom B (getD ls k []) (partFrom from k)) 0 n (λ j a l. in-chunk k j (omega arith))
 
   -- the last place of chunk k, and the first of the next: "No piece crosses a chunk's edge"
-  edge : (k p : ℕ) → suc p ≡ suc k * chunk - from → Parts nextSite (siteFrom first B ls from) p
+  pub edge : (k p : ℕ) → suc p ≡ suc k * chunk - from → Parts nextSite (siteFrom first B ls from) p
   unfolding nextSite siteFrom siteAt chunk
   edge k p h =
       let x : (from + p) / 67108864 ≡ k = omega arith in

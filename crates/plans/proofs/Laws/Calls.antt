@@ -4,13 +4,14 @@ use mathlib.Core.Path.{_≡_, sym, ap, _∙_}
 use mathlib.Core.Bool.{Bool, true, false, not}
 use mathlib.Core.Logic.{_↔_}
 use mathlib.Core.List.{List}
+use lib.ListN.{length}
 use borrow.Author.Tests.{lt-ltb, le-ltb}
 use Rattle.slices.specs.Limits.{chunk, maxIndex}
 use Rattle.slices.specs.Record.{records}
 use Rattle.outcomes.specs.Numbers as number
 use Rattle.outcomes.specs.Outcome.{Outcome, refused, done, refusal, firstOf, delivered, NoneHolds, Given}
 use Rattle.slices.specs.Refusals.{listRows, checkOutcome, checked, chunkTooLong}
-use Rattle.outcomes.proofs.Laws.Outcome.{firstOf-append, row-holds, row-passes, refused-exactly, answered-exactly}
+use Rattle.outcomes.proofs.Laws.Outcome.{firstOf-append, row-holds, row-passes, short-done, refused-exactly, answered-exactly}
 use Rattle.slices.proofs.Laws.Refusals.{check-stops, check-lets}
 use Rattle.blocks.specs.Blocks.{blockAllowed, blockSizeBad}
 use Rattle.plans.specs.Piece.{chunkBytes}
@@ -58,6 +59,10 @@ module _ (bs : List ℕ) (index l B start count room : ℕ) where
   pub read-is : readOutcome bs index l B start count room ≡ firstOf (chunkRows bs index l B) (delivered (planBytes bs index l B start count) room)
   unfolding readOutcome readRows
   read-is = firstOf-append (chunkRows bs index l B) _ _
+
+  -- and it does not come where there is room
+  pub read-fits : length (planBytes bs index l B start count) ≤ room → readOutcome bs index l B start count room ≡ firstOf (chunkRows bs index l B) (done (planBytes bs index l B start count))
+  read-fits h = read-is ∙ ap (firstOf (chunkRows bs index l B)) (short-done (planBytes bs index l B start count) room h)
 
   pub read-7 : chunk < l → readOutcome bs index l B start count room ≡ refused (refusal number.chunkTooLong 0)
   read-7 h = read-is ∙ chunk-7 bs index l B _ h

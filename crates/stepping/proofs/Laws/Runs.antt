@@ -1,2 +1,0 @@
--- Pieces from runs.
-use Prim.Native.Nat.{ℕ}

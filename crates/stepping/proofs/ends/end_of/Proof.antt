@@ -1,0 +1,73 @@
+-- `stepping::ends::end_of` meets its contract: the piece ends with a block, at the end, where the next record parts, or as the resolved list says.
+-- Assumes nothing.
+use mathlib.Core.Path.{refl}
+use denote.Ref.{now}
+use Rattle.slices.specs.Record.{records}
+use Rattle.runs.specs.Inner.{Unbroken}
+use Rattle.runs.proofs.Laws.Walk.{leads-stops, leads-parts, leads-end}
+use Rattle.plans.specs.Inner.{Shifts}
+use Rattle.plans.specs.Location.{locationAt, nextLocation, onward}
+use Rattle.plans.proofs.Laws.Locations.{onward-zero, next-location-is}
+use Rattle.plans.proofs.Laws.Shifts.{shifts-some}
+use Rattle.stepping.proofs.Laws.Ends.{top-here, top-there, scan-unbroken}
+use borrow.Author.Needs.{needs}
+use Rattle.stepping.proofs.ends.end_of.Statement.{statement}
+use Rattle.stepping.proofs.ends.end_of.Tie as tie
+
+bits-of-requires : tie.Need-bits-of-requires
+bits-of-requires c κs = search needs
+
+same-top-to-requires : tie.Need-same-top-to-requires
+same-top-to-requires c κs = search needs
+
+-- a block has as many bytes as its bits say
+shifts : (c : tie.After-bits-of) → Shifts (c .before .before .args .block) (c .bits-of .result)
+shifts c = record { power = c .bits-of .ensures .0; few = c .bits-of .ensures .1 }
+
+-- up to e the locations go on
+goes-on : (c : tie.After-same-top-to) → let a = c .before .before .before .args in Unbroken nextLocation (locationAt (a .block) (records (now (a .list)))) (a .p) (a .end) (c .same-top-to .result)
+goes-on c = scan-unbroken _ _ _ _ (c .before .before .before .pre .1 .1) _ _ _ (c .same-top-to .ensures .0)
+
+returns : tie.Need-returns
+returns c =
+    let stop = c .if1 .taken in
+    leads-stops nextLocation onward onward-zero next-location-is _ _ _ _ (goes-on (c .before)) (λ q h l. c .before .same-top-to .ensures .1 stop q h stop)
+
+returns-2 : tie.Need-returns-2
+returns-2 c = leads-end nextLocation onward onward-zero next-location-is _ _ _ _ (goes-on (c .before .before)) _ refl (c .if2 .taken)
+
+id-on-requires : tie.Need-id-on-requires
+id-on-requires c κs = λ i e. c .before .before .before .before .before .pre .1 .1 .here .covering i e .0
+
+joins-requires : tie.Need-joins-requires
+joins-requires c κs =
+    let told = c .before .before .before in
+    let p = told .before .before .before .pre in
+    let u = told .same-top-to .ensures .0 in
+    let s = p .1 .1 in
+    (p .0 .0 .pass, ((u .some, shifts-some _ _ (shifts (told .before)), c .id-on .ensures), (top-here _ _ _ _ s, top-there _ _ _ _ s _ (u .inside) (c .before .before .if1 .left) (c .before .if2 .left))))
+
+end-resolved-requires : tie.Need-end-resolved-requires
+end-resolved-requires c κs = search needs
+
+returns-3 : tie.Need-returns-3
+returns-3 c = search needs
+
+returns-4 : tie.Need-returns-4
+returns-4 c =
+    let joined = c .before in
+    leads-parts nextLocation onward onward-zero next-location-is _ _ _ _ (goes-on (joined .before .before .before .before)) _ _ _ refl refl (joined .joins .ensures) (c .if3 .left)
+
+pub end-of-spec : {M : Type 1} → statement M
+end-of-spec =
+    tie.close
+    (tie.spec
+    bits-of-requires
+    same-top-to-requires
+    returns
+    returns-2
+    id-on-requires
+    joins-requires
+    end-resolved-requires
+    returns-3
+    returns-4)
