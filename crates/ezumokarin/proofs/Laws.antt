@@ -27,6 +27,9 @@ use Rattle.ezumokarin.specs.Names.{objectRead, fullRead, chunkRead, plai
 use Rattle.seeking.specs.Seek.{sought}
 use Rattle.seeking.specs.declared.Found.{Found as FoundOf}
 use Rattle.ezumokarin.specs.Seeks.{foundIn, plainSought}
+use Rattle.stepping.specs.Step.{Step, given, finished}
+use Rattle.stepping.specs.Calls.{saidNext, nextAnswer, saidFileNext, nextFileAnswer}
+use Rattle.ezumokarin.specs.Steps.{plainStep, inFile, stepped, steppedFile, plainNext, plainFileNext}
 use Rattle.ezumokarin.specs.Plain.{counted, wrote, plainChecked, plainAnswer}
 
 pub plain-counted : (o : Outcome ℕ) → plainChecked (checked o) ≡ counted o
@@ -103,3 +106,25 @@ module _ (older newer : List ℕ) where
       go (refused r) = refl
       go (done true) = take-all (length newer) newer (omega arith)
       go (done false) = rest-whole newer (length older)
+
+-- ---- pieces one at a time
+
+said-next : (s : Step) (at : ℕ) → plainNext (saidNext s) at ≡ plainStep s at
+unfolding saidNext plainNext plainStep
+said-next (given p to) at = refl
+said-next finished at = refl
+
+pub plain-next : (o : Outcome Step) (at : ℕ) → plainNext (nextAnswer o) at ≡ stepped o at
+unfolding plainNext answerOf stepped
+plain-next (refused r) at = refl
+plain-next (done s) at = said-next s at
+
+said-file-next : (s : Step) (at : ℕ) → plainFileNext (saidFileNext s) at ≡ inFile 0 (plainStep s at)
+unfolding saidFileNext plainFileNext plainStep
+said-file-next (given p to) at = refl
+said-file-next finished at = refl
+
+pub plain-file-next : (o : OutcomeOf ListRefusal Step) (at : ℕ) → plainFileNext (nextFileAnswer o) at ≡ steppedFile o at
+unfolding plainFileNext answerOf steppedFile
+plain-file-next (refused r) at = refl
+plain-file-next (done s) at = said-file-next s at

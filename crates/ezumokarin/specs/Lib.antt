@@ -4,3 +4,4 @@ pub mod Compact
 pub mod Files
 pub mod Seeks
 pub mod Changes
+pub mod Steps

@@ -8,6 +8,7 @@ mod lists;
 mod naming;
 mod reading;
 mod seeks;
+mod steps;
 
 // What a call that counts or writes answers.
 #[repr(C)]
@@ -24,6 +25,41 @@ pub struct Filed {
     pub place: u64,
     pub index: u64,
     pub count: u64,
+}
+
+// What comes next in a read of one chunk: `finished` is 1 where nothing is left, and `next` is the next place; the others are the piece.
+#[repr(C)]
+pub struct Next {
+    pub refusal: u64,
+    pub place: u64,
+    pub finished: u64,
+    pub next: u64,
+    pub mark: u64,
+    pub index: u64,
+    pub at: u64,
+    pub id: u64,
+    pub block: u64,
+    pub block_len: u64,
+    pub in_block: u64,
+    pub len: u64,
+}
+
+// The same for a read across a file: `list_index` is the chunk index of the refused list.
+#[repr(C)]
+pub struct FileNext {
+    pub refusal: u64,
+    pub place: u64,
+    pub list_index: u64,
+    pub finished: u64,
+    pub next: u64,
+    pub mark: u64,
+    pub index: u64,
+    pub at: u64,
+    pub id: u64,
+    pub block: u64,
+    pub block_len: u64,
+    pub in_block: u64,
+    pub len: u64,
 }
 
 // What compaction answers: the counts of the plan's bytes and of the new list's.
