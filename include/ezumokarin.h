@@ -132,12 +132,12 @@ typedef struct ezk_file_answer {
     uint64_t count; /* bytes written */
 } ezk_file_answer;
 
-/* What ezk_next_piece returns. */
+/* What ezk_next_piece returns. As in all structs, place is that of a refused record. */
 typedef struct ezk_next {
     uint64_t refusal;
     uint64_t place;
     uint64_t finished;  /* 1 if no byte of the read is left, else 0, also on a refusal */
-    uint64_t next;      /* the next place; once finished, the place that was given */
+    uint64_t next;      /* the place to pass next; once finished, the one that was given */
     uint64_t mark;      /* from here on the piece: 0x5242 for "RB", 0x525A for "RZ" */
     uint64_t index;     /* of its chunk */
     uint64_t at;        /* its place in the read, which is the place that was given */
@@ -302,10 +302,11 @@ ezk_file_answer ezk_file_plan(const uint8_t *lists, size_t lists_len, const uint
 
 /*
  * Gives the plan of ezk_read_plan piece by piece, for a caller who has no room for it all. The
- * place is a value that the caller keeps: at is how many bytes of the read are already handed
- * out, 0 at first. The answer is the piece that comes next, and next, the place to pass then. If
- * nothing is left, finished is 1, next is at, and there is no piece. From place 0 on, with the
- * other inputs unchanged, the pieces are those of ezk_read_plan, in order.
+ * caller keeps one number, the place: at is how many bytes of the read are already handed out, 0
+ * at first. The answer is the piece that comes next, and next is the place to pass then. If no
+ * byte is left, finished is 1, next is the place that was given, and there is no piece: its
+ * fields, mark to len, are 0. From place 0 on, with the other inputs unchanged, the pieces, in
+ * order, are exactly those of ezk_read_plan.
  *
  *     for (at = 0;; at = piece.next) {
  *         piece = ezk_next_piece(list, list_len, index, chunk_len, block_size, start, count, at);
@@ -314,15 +315,17 @@ ezk_file_answer ezk_file_plan(const uint8_t *lists, size_t lists_len, const uint
  *         ...
  *     }
  *
- * Any number is a place. One inside a piece gives the rest of it: at is the place given, and the
- * place in block and the length are moved by the bytes of the piece before it. One at or past the
- * end of the read is finished, and so is every later one. The read is always start and count as
- * they were given at first: only at moves.
+ * Any number is a place. One inside a piece gives the rest of that piece: the piece's at is the
+ * place given, its len is what is left, and its in_block is larger by as much as len is smaller
+ * ("RZ" keeps 0). The pieces that follow are those of the whole plan. A place at or past the end
+ * of the read is finished, and so is every later one. The read stays the one of start and count:
+ * only at moves.
  *
- * Each call checks the whole list, so that a refusal comes also where the read is finished.
- * Nothing is written, so there is no refusal 12. On a refusal next is 0 too: test refusal first.
- * A piece usually takes one pass over the list beside the check. One that joins parts of several
- * records, such as a hole and zeros, takes as long as a read plan of few pieces.
+ * Each call checks the numbers and the whole list as ezk_read_plan does, so that a refusal comes
+ * also where the read is finished. Nothing is written, so there is no refusal 12. On a refusal
+ * finished and next are 0 too: test refusal first. A piece usually takes one pass over the list
+ * beside the check. One that joins parts of several records, such as a hole and zeros, takes as
+ * long as a read plan of few pieces.
  * Refusals, in order: 7, 21, 8, 1, 2, 3 to 6, 16.
  */
 ezk_next ezk_next_piece(const uint8_t *list, size_t list_len, uint64_t index, uint64_t chunk_len,
@@ -331,8 +334,8 @@ ezk_next ezk_next_piece(const uint8_t *list, size_t list_len, uint64_t index, ui
 /*
  * The same for a read across the chunks of a file: gives the plan of ezk_file_plan piece by
  * piece. All but at is passed as to ezk_file_plan, and at is the place in the whole read, through
- * all chunks. Every list is checked at each call, also one that the piece does not touch;
- * list_index tells which was refused.
+ * all chunks. Every list is checked at each call, also one that the piece does not touch:
+ * list_index tells which was refused, and index is that of the piece's chunk.
  * Refusals, in order: 21, 8, then list by list 1, 2, 3 to 6, 16.
  */
 ezk_file_next ezk_next_file_piece(const uint8_t *lists, size_t lists_len, const uint64_t *lengths,
