@@ -23,6 +23,8 @@ static const struct {
     [TIDY] = {"tidy", 1, LIST | BIT(11) | BIT(12)},
     [READ_PLAN] = {"read_plan", 1, BIT(7) | BIT(21) | BIT(8) | LIST | BIT(12)},
     [FILE_PLAN] = {"file_plan", 1, BIT(21) | BIT(8) | LIST | BIT(12)},
+    [NEXT_PIECE] = {"next_piece", 0, BIT(7) | BIT(21) | BIT(8) | LIST},
+    [NEXT_FILE_PIECE] = {"next_file_piece", 0, BIT(21) | BIT(8) | LIST},
     [COMPACT] = {"compact", 2, BIT(21) | BIT(8) | LIST | BIT(10) | BIT(9) | BIT(12)},
     [ADDED] = {"added", 0, LIST},
     [WRITE_OBJECT_NAME] = {"write_object_name", 1, BIT(13) | BIT(12)},
@@ -76,6 +78,11 @@ const char *name(enum kind kind)
 unsigned outputs(enum kind kind)
 {
     return kinds[kind].outputs;
+}
+
+int on_file(enum kind kind)
+{
+    return kind == FILE_PLAN || kind == NEXT_FILE_PIECE;
 }
 
 static void check_refusal(const call *call, const answer *a)
@@ -133,6 +140,12 @@ static size_t plan_room(size_t records, uint64_t block_size)
 {
     size_t blocks = block_size < 65536 ? 0 : EZK_CHUNK / block_size;
     return EZK_PIECE * (blocks + 2 * (2 * records + 1));
+}
+
+uint64_t chunk_read(const call *call)
+{
+    uint64_t end = call->number[1], start = call->number[3], count = call->number[4];
+    return start >= end ? 0 : count < end - start ? count : end - start;
 }
 
 uint64_t file_read(const call *call)

@@ -15,6 +15,8 @@ enum kind {
     TIDY,
     READ_PLAN,
     FILE_PLAN,
+    NEXT_PIECE,
+    NEXT_FILE_PIECE,
     COMPACT,
     ADDED,
     WRITE_OBJECT_NAME,
@@ -33,12 +35,15 @@ enum { REFUSALS = 22 }; /* with 0 for an answer; 14, 15 and 17 to 20 are none */
 /* The most records of a list, and of a tidied list. */
 enum { LIST_RECORDS = 2048, TIDIED_RECORDS = 2048 };
 
-enum { ARGUMENTS = 5, VALUES = 7 };
+enum { ARGUMENTS = 6, VALUES = 10 };
+
+/* The last number of NEXT_PIECE and NEXT_FILE_PIECE; the ones before it are those of a plan. */
+enum { PLACE = 5 };
 
 /*
  * Numbers in the order in which the call takes them; bytes are its list, view, volume or text. Of
- * ADDED they are the newer list, and only it has an older one; of FILE_PLAN the joined lists, and
- * only it has their lengths.
+ * ADDED they are the newer list, and only it has an older one; of a call on a file the joined
+ * lists, and only it has their lengths.
  */
 typedef struct call {
     enum kind kind;
@@ -53,8 +58,9 @@ typedef struct call {
     uint8_t salt;
 } call;
 
-/* value: count; or found, segment and its five numbers; or plan and list; or rewritten, offset,
- * length; or id, block, length, volume; or inode, index. */
+/* value: count; or found, segment and its five numbers; or finished, next and the eight of a
+ * piece; or plan and list; or rewritten, offset, length; or id, block, length, volume; or inode,
+ * index. The index beside it is that of a refused list. */
 typedef struct answer {
     uint64_t refusal, place, index, value[VALUES];
     uint8_t *written[2]; /* copies of what was written, malloc'ed exactly */
@@ -69,7 +75,13 @@ unsigned outputs(enum kind kind);
 /* Whether the older list of ADDED is a beginning of the newer. */
 int begins(const call *call);
 
-/* Bytes of the read of FILE_PLAN, cut to the file's end and the last list's. */
+/* Whether the call is on the joined lists of several chunks. */
+int on_file(enum kind kind);
+
+/* Bytes of the read, cut to the chunk's length. */
+uint64_t chunk_read(const call *call);
+
+/* Bytes of the read of a call on a file, cut to the file's end and the last list's. */
 uint64_t file_read(const call *call);
 
 /* Makes the call with rooms of these lengths. Free the answer with done_with. */

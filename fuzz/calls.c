@@ -71,12 +71,12 @@ int LLVMFuzzerTestOneInput(const uint8_t *data, size_t size)
                  .salt = head[SALT]};
     for (int i = 0; i < ARGUMENTS; i++)
         call.number[i] = be(head + NUMBERS + 8 * i, 8);
-    if (call.kind == FILE_PLAN)
+    if (on_file(call.kind))
         call.lists = head[JOINED] % (LISTS_MAX + 1);
     give_shape(&call, bytes, head[SHAPE]);
     if (call.kind == ADDED)
         give_older(&call, bytes, head[SHAPE]);
-    if (call.kind == FILE_PLAN)
+    if (on_file(call.kind))
         give_lengths(&call, bytes, head);
 
     answer a = make_ample(&call);

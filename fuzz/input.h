@@ -14,8 +14,8 @@ enum layout {
     JOINED = ROOMS + 4,    /* how many lists, of a call on several */
     SPOILED,              /* what is then wrong with their lengths */
     SHARES,               /* a number of 8 bytes: what each of them has of the records */
-    NUMBERS = SHARES + 8, /* five numbers of 8 bytes, big-endian */
-    BYTES = NUMBERS + 40, /* list (also of a view, or several of them), volume or text */
+    NUMBERS = SHARES + 8, /* six numbers of 8 bytes, big-endian */
+    BYTES = NUMBERS + 48, /* list (also of a view, or several of them), volume or text */
 };
 
 /*

@@ -1,4 +1,4 @@
-/* The lists of a call of FILE_PLAN: how its bytes are divided, and numbers near their edges. */
+/* The lists of a call on a file: how its bytes are divided, and numbers near their edges. */
 #include "shape.h"
 
 #include <string.h>
@@ -87,6 +87,7 @@ static void shape_file_numbers(call *call, enum shape shape)
     n[2] = shaped_block_size(n[2]);
     n[3] = near_edge(n[3], call->lists, end);
     n[4] = n[4] % 2 ? n[4] / 2 % (2 * end) : near_edge(n[4] / 2, call->lists, end);
+    n[PLACE] = shaped_place(n[PLACE], file_read(call));
 }
 
 void give_lengths(call *call, uint8_t *bytes, const uint8_t *head)

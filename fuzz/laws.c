@@ -13,9 +13,15 @@ int same(const answer *a, const uint8_t *bytes, size_t len)
     return a->refusal == 0 && a->value[0] == len && (!len || !memcmp(a->written[0], bytes, len));
 }
 
+/* Of these a refusal has laws too. */
+static int refused_by_law(const call *call, const answer *a)
+{
+    return a->refusal == EZK_TIDIED_RECORDS || on_file(call->kind) || call->kind == NEXT_PIECE;
+}
+
 void keep_laws(const call *call, const answer *a)
 {
-    if (a->refusal && a->refusal != EZK_TIDIED_RECORDS && call->kind != FILE_PLAN)
+    if (a->refusal && !refused_by_law(call, a))
         return;
     switch (call->kind) {
     case CHECK:
@@ -31,6 +37,9 @@ void keep_laws(const call *call, const answer *a)
         return plan_law(call, a);
     case FILE_PLAN:
         return file_law(call, a);
+    case NEXT_PIECE:
+    case NEXT_FILE_PIECE:
+        return next_law(call, a);
     case COMPACT:
         return compact_law(call, a);
     case ADDED:

@@ -10,6 +10,7 @@ void find_law(const call *call, const answer *a);
 void tidy_law(const call *call, const answer *a);
 void plan_law(const call *call, const answer *a);
 void file_law(const call *call, const answer *a);
+void next_law(const call *call, const answer *a);
 void compact_law(const call *call, const answer *a);
 void added_law(const call *call, const answer *a);
 void text_law(const call *call, const answer *a);

@@ -21,6 +21,24 @@ static answer sought(ezk_found a)
                     .value = {a.found, a.segment, a.pos, a.id, a.size, a.off, a.len}};
 }
 
+/* Both structs have the same fields but for the index of a refused list. */
+#define STEPPED(a)                                                                               \
+    {(a).finished, (a).next, (a).mark, (a).index, (a).at, (a).id, (a).block, (a).block_len,      \
+     (a).in_block, (a).len}
+
+static answer stepped(ezk_next a)
+{
+    return (answer){.refusal = a.refusal, .place = a.place, .value = STEPPED(a)};
+}
+
+static answer stepped_file(ezk_file_next a)
+{
+    return (answer){.refusal = a.refusal,
+                    .place = a.place,
+                    .index = a.list_index,
+                    .value = STEPPED(a)};
+}
+
 static answer compacted(ezk_compacted a)
 {
     return (answer){.refusal = a.refusal, .place = a.place, .value = {a.plan, a.list}};
@@ -110,6 +128,13 @@ static answer pass_two(const call *call, const lent *newer)
     return a;
 }
 
+static answer pass_next(const call *call, const lent *list)
+{
+    const uint64_t *n = call->number;
+    return stepped(
+        ezk_next_piece(list->bytes, list->len, n[0], n[1], n[2], n[3], n[4], n[PLACE]));
+}
+
 /* The lengths stand where numbers may: aligned, as the salt then says. */
 static answer pass_file(const call *call, const lent *lists, const lent *out)
 {
@@ -117,8 +142,13 @@ static answer pass_file(const call *call, const lent *lists, const lent *out)
     lent lengths = lend(2, call->places / PLACES / PLACES % PLACES, call->salt & 0xf8,
                         (const uint8_t *)call->lengths, call->lists * sizeof *call->lengths);
     const uint64_t *numbers = (const void *)lengths.bytes;
-    answer a = filed(ezk_file_plan(lists->bytes, lists->len, numbers, call->lists, n[0], n[1],
-                                   n[2], n[3], n[4], out->bytes, out->len));
+    answer a;
+    if (call->kind == FILE_PLAN)
+        a = filed(ezk_file_plan(lists->bytes, lists->len, numbers, call->lists, n[0], n[1], n[2],
+                                n[3], n[4], out->bytes, out->len));
+    else
+        a = stepped_file(ezk_next_file_piece(lists->bytes, lists->len, numbers, call->lists, n[0],
+                                             n[1], n[2], n[3], n[4], n[PLACE]));
     must(call, !changed(&lengths, 0), "a byte in or beside the lengths changed");
     give_back(&lengths);
     return a;
@@ -128,7 +158,10 @@ answer pass(const call *call, const lent *in, const lent out[2])
 {
     switch (call->kind) {
     case FILE_PLAN:
+    case NEXT_FILE_PIECE:
         return pass_file(call, in, out);
+    case NEXT_PIECE:
+        return pass_next(call, in);
     case ADDED:
         return pass_two(call, in);
     default:

@@ -37,10 +37,9 @@ static void again_law(const call *call, const answer *a, const answer *view)
 /* Every piece against the runs of the view under it; zeros and holes can be several. */
 void plan_law(const call *call, const answer *a)
 {
-    uint64_t chunk_len = call->number[1], start = call->number[3], left = call->number[4];
+    uint64_t chunk_len = call->number[1], start = call->number[3], left = chunk_read(call);
     size_t pieces = a->value[0] / EZK_PIECE, run = 0;
     must(call, a->value[0] % EZK_PIECE == 0, "half a piece");
-    left = start >= chunk_len ? 0 : left < chunk_len - start ? left : chunk_len - start;
 
     struct call viewing = other(call, VIEW, call->bytes, call->len);
     viewing.number[0] = chunk_len;
@@ -101,8 +100,8 @@ void compact_law(const call *call, const answer *a)
              r.len == r.size,
          "another new record");
     struct call reading = other(call, READ_PLAN, call->bytes, k * EZK_RECORD);
-    memcpy(reading.number, (uint64_t[]){index, EZK_CHUNK, block_size, first, end - first},
-           sizeof reading.number);
+    const uint64_t number[] = {index, EZK_CHUNK, block_size, first, end - first};
+    memcpy(reading.number, number, sizeof number);
     answer plan = make_ample(&reading);
     must(call, same(&plan, a->written[0], a->value[0]), "the plan is not that of the read");
     done_with(&plan);

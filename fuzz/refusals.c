@@ -150,8 +150,10 @@ uint64_t expected_refusal(const call *call, uint64_t *place, uint64_t *index)
             return EZK_CHUNK_LENGTH;
         return list_refusal(call->bytes, call->len, place);
     case READ_PLAN:
+    case NEXT_PIECE:
         return read_refusal(call, place);
     case FILE_PLAN:
+    case NEXT_FILE_PIECE:
         return file_refusal(call, place, index);
     case COMPACT:
         return compact_refusal(call, place);

@@ -55,16 +55,15 @@ static void seed(enum kind kind, unsigned shape, const uint64_t *number, const v
 #define WITH(...) ((const uint64_t[ARGUMENTS]){__VA_ARGS__})
 
 /* One list of chunk 1; or the records divided into three lists, or four. */
-static void file_seeds(unsigned shape, const uint8_t *list, size_t len)
+static void file_seeds(enum kind kind, unsigned shape, const uint8_t *list, size_t len)
 {
     static uint8_t bytes[8 + LIST_MAX];
-    const uint64_t *number = WITH(1, 4ull * EZK_CHUNK, BLOCK, 0, 2 * EZK_CHUNK);
+    const uint64_t *number = WITH(1, 4ull * EZK_CHUNK, BLOCK, 0, 2 * EZK_CHUNK, 8 * MIB + 1);
     memcpy(put(bytes, len, 8), list, len);
     if (shape % SHAPES == AS_IS)
-        seed_joined(FILE_PLAN, shape, (joined){1, 0, 0}, number, bytes, 8 + len);
+        seed_joined(kind, shape, (joined){1, 0, 0}, number, bytes, 8 + len);
     for (unsigned spoiled = 0; shape % SHAPES != AS_IS && spoiled < 5; spoiled++)
-        seed_joined(FILE_PLAN, shape, (joined){3 + spoiled % 2, spoiled, 0x1321}, number, list,
-                    len);
+        seed_joined(kind, shape, (joined){3 + spoiled % 2, spoiled, 0x1321}, number, list, len);
 }
 
 static void list_seeds(unsigned shape, const uint8_t *list, size_t len)
@@ -74,9 +73,11 @@ static void list_seeds(unsigned shape, const uint8_t *list, size_t len)
     seed(FIND, shape, WITH(8 * 3, 5, 20, 3), list, len);
     seed(TIDY, shape, WITH(0), list, len);
     seed(READ_PLAN, shape, WITH(7, EZK_CHUNK, BLOCK, 0, EZK_CHUNK), list, len);
+    seed(NEXT_PIECE, shape, WITH(7, EZK_CHUNK, BLOCK, 0, EZK_CHUNK, 8 * 5 + 1), list, len);
     seed(COMPACT, shape, WITH(7, BLOCK, 1, 1000), list, len);
     seed(ADDED, shape, WITH(EZK_RECORD), list, len);
-    file_seeds(shape, list, len);
+    file_seeds(FILE_PLAN, shape, list, len);
+    file_seeds(NEXT_FILE_PIECE, shape, list, len);
 }
 
 static size_t list_of(uint8_t *list, const record *records, size_t count)
@@ -134,13 +135,35 @@ static void plans(const uint8_t *list, size_t len)
         seed(COMPACT, AS_IS, WITH(high, 65536, k, UINT64_MAX), list, len);
 }
 
+/* A read of 2 MiB over the edge of two objects, which lies at 1 MiB. */
+static void places(const uint8_t *list, size_t len)
+{
+    const uint64_t high = UINT32_MAX;
+    const uint64_t at[] = {0, 1, MIB - 1, MIB, MIB + 1, 2 * MIB - 1, 2 * MIB, high, UINT64_MAX};
+    for (size_t i = 0; i < sizeof at / sizeof *at; i++)
+        seed(NEXT_PIECE, AS_IS, WITH(9, EZK_CHUNK, BLOCK, 15 * MIB, 2 * MIB, at[i]), list, len);
+    seed(NEXT_PIECE, AS_IS, WITH(0, EZK_CHUNK, 65536, 0, UINT64_MAX, 9 * MIB), list, len);
+    seed(NEXT_PIECE, AS_IS, WITH(0, 0, BLOCK, 0, 0, 0), list, len);
+    seed(NEXT_PIECE, AS_IS, WITH(1, EZK_CHUNK, 65537, 0, 1, 1), list, len);            /* 8 */
+    seed(NEXT_PIECE, AS_IS, WITH(high + 1, EZK_CHUNK + 1, BLOCK, 0, 1, 1), list, len); /* 7 */
+    seed(NEXT_PIECE, AS_IS, WITH(high + 1, EZK_CHUNK, 65537, 0, 0, 0), list, len);     /* 21 */
+    seed(NEXT_PIECE, AS_IS, WITH(1, EZK_CHUNK, BLOCK, 0, 1, 1), list, len - 1);        /* 1 */
+}
+
+/* Lengths and lists as they are, for the whole plan and for one piece of it. */
+static void both_on_file(unsigned lists, const uint64_t *number, const void *bytes, size_t len)
+{
+    seed_joined(FILE_PLAN, AS_IS, (joined){lists, 0, 0}, number, bytes, len);
+    seed_joined(NEXT_FILE_PIECE, AS_IS, (joined){lists, 0, 0}, number, bytes, len);
+}
+
 /* The records as two lists, the first of them with so many bytes. */
 static void two_lists(uint64_t first_len, const uint64_t *number, const record *records,
                       size_t count)
 {
     uint8_t bytes[2 * 8 + 4 * EZK_RECORD], *lists = put(bytes, first_len, 8);
     size_t len = list_of(put(lists, count * EZK_RECORD - first_len, 8), records, count);
-    seed_joined(FILE_PLAN, AS_IS, (joined){2, 0, 0}, number, bytes, 16 + len);
+    both_on_file(2, number, bytes, 16 + len);
 }
 
 /* A read over the edge of chunks 2 and 3, behind which the same object goes on. */
@@ -150,8 +173,9 @@ static void files(void)
     const record sound[] = {last, first, {8, 0, 0, 0, 4}};
     const record bad[] = {last, first, {0, 7, 17, 0, 8}};
     const record worse[] = {last, {0, 7, 16, 9, 8}, last};
-    const uint64_t *number = WITH(2, 4ull * EZK_CHUNK, BLOCK, EZK_CHUNK - 10, 30);
+    const uint64_t *number = WITH(2, 4ull * EZK_CHUNK, BLOCK, EZK_CHUNK - 10, 30, 9);
     const uint64_t high = UINT32_MAX, ends[] = {0, EZK_RECORD, 3 * EZK_RECORD, EZK_RECORD - 1};
+    const uint64_t at[] = {0, 1, 2, 10, 17, 18, 29, 30, 31, UINT64_MAX}; /* pieces, and the end */
     static const uint8_t zeros[8 * LISTS_MAX];
     for (size_t i = 0; i < sizeof ends / sizeof *ends; i++)
         two_lists(ends[i], number, sound, 3);
@@ -165,9 +189,10 @@ static void files(void)
     two_lists(EZK_RECORD, WITH(2, 2ull * EZK_CHUNK, BLOCK, 0, 1), sound, 3);
     two_lists(EZK_RECORD, WITH(2, 3ull * EZK_CHUNK + 5, 65536, EZK_CHUNK - 3, 99), sound, 3);
     two_lists(EZK_RECORD, WITH(0, UINT64_MAX, BLOCK, UINT64_MAX, UINT64_MAX), sound, 3);
+    for (size_t i = 0; i < sizeof at / sizeof *at; i++)
+        two_lists(EZK_RECORD, WITH(2, UINT64_MAX, BLOCK, EZK_CHUNK - 10, 30, at[i]), sound, 3);
     for (unsigned lists = 0; lists <= LISTS_MAX; lists++) /* 21 for none, and above 16 */
-        seed_joined(FILE_PLAN, AS_IS, (joined){lists, 0, 0},
-                    WITH(0, UINT64_MAX, 65536, 1, UINT64_MAX), zeros, 8 * lists);
+        both_on_file(lists, WITH(0, UINT64_MAX, 65536, 1, UINT64_MAX), zeros, 8 * lists);
 }
 
 static void small_lists(void)
@@ -193,6 +218,7 @@ static void small_lists(void)
     list_seeds(SOUND, list, len);
     seed(VIEW, AS_IS, WITH(EZK_CHUNK + 1), list, len); /* 7 */
     plans(list, len);
+    places(list, len);
 }
 
 /* As they are: a view, a row that is none, and one whose last segment ends past 2^32. */

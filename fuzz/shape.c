@@ -60,6 +60,11 @@ uint64_t shaped_index(uint64_t number)
     return choice == 0 ? number : choice < 3 ? (1ull << 32) + 3 - number % 24 : number % 8;
 }
 
+uint64_t shaped_place(uint64_t number, uint64_t bytes)
+{
+    return number % 8 ? number / 8 % (bytes + 2) : number / 8;
+}
+
 /* Into the range that the call allows, or one above it; near the records of small lists. */
 static void shape_numbers(call *call, enum shape shape)
 {
@@ -74,11 +79,13 @@ static void shape_numbers(call *call, enum shape shape)
         n[1] %= end + 2;
         return;
     case READ_PLAN:
+    case NEXT_PIECE:
         n[0] = shaped_index(n[0]);
         n[1] %= end + 2;
         n[2] = shaped_block_size(n[2]);
         n[3] %= end + 2;
         n[4] %= end + 2;
+        n[PLACE] = shaped_place(n[PLACE], chunk_read(call));
         return;
     case COMPACT:
         n[0] = shaped_index(n[0]);
@@ -180,6 +187,8 @@ void give_shape(call *call, uint8_t *bytes, uint8_t choice)
     case TIDY:
     case READ_PLAN:
     case FILE_PLAN:
+    case NEXT_PIECE:
+    case NEXT_FILE_PIECE:
     case COMPACT:
     case ADDED:
         shape_list(call, bytes, shape, choice / SHAPES * RECORDS_MAX / (255 / SHAPES));

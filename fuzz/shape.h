@@ -21,7 +21,7 @@ void give_shape(call *call, uint8_t *bytes, uint8_t choice);
 /* Gives a call of ADDED, whose bytes have this shape, an older list. */
 void give_older(call *call, uint8_t *bytes, uint8_t choice);
 
-/* Gives a call of FILE_PLAN, whose bytes have their shape, the lengths of its lists, and its
+/* Gives a call on a file, whose bytes have their shape, the lengths of its lists, and its
  * numbers their shape. `head` is the input's. */
 void give_lengths(call *call, uint8_t *bytes, const uint8_t *head);
 
@@ -30,6 +30,9 @@ uint64_t shaped_block_size(uint64_t number);
 
 /* An index, most often of 32 bits, and often near their end. */
 uint64_t shaped_index(uint64_t number);
+
+/* A place in a read of so many bytes, or at its end; now and then any. */
+uint64_t shaped_place(uint64_t number, uint64_t bytes);
 
 /* One byte changed, some cut off, or two records exchanged; or nothing. */
 void spoil_records(uint8_t *bytes, size_t *len, uint64_t choice);
