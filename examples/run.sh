@@ -78,13 +78,35 @@ RZ 3 5242880 0 0 0 0 262144
 RB 3 5505024 22 0 2097152 1310720 262144
 refused 5 at 1 in the list of chunk 3
 TEXT
-# README shows these lines too, from the first of them up to an empty line.
-first=$(head -n 1 "$work/file.expected")
-sed -n "/^    $first\$/,/^\$/p" "$here/../README.md" | sed '/^$/d; s/^    //' > "$work/shown"
-if ! diff "$work/file.expected" "$work/shown"; then
-    echo "README.md shows other lines of examples/file.c" >&2
+# By hand, from the requirements: the pieces above. The tablet is switched off where 4.5 MiB have arrived, half of the 1 MiB of slice 22 from place 4 MiB on; the
+# rest of that piece starts 0.5 MiB later in its block. After 5.5 MiB the read is finished, and stays so; but a list that is damaged then is refused there too.
+cat > "$work/next.expected" <<'TEXT'
+on at 0
+RB 2 0 21 0 4194304 3145728 1048576
+RB 2 1048576 21 1 1048576 0 1048576
+RZ 2 2097152 0 0 0 0 1048576
+RZ 3 3145728 0 0 0 0 1048576
+RB 3 4194304 22 0 2097152 0 1048576
+on at 4718592
+RB 3 4718592 22 0 2097152 524288 524288
+RZ 3 5242880 0 0 0 0 262144
+RB 3 5505024 22 0 2097152 1310720 262144
+finished
+on at 5767168
+finished
+on at 5767168
+refused 5 at 1 in the list of chunk 3
+TEXT
+
+# shown NAME: README shows these lines too, from where the first of them stands first up to an empty line.
+shown() {
+    first=$(head -n 1 "$work/$1.expected")
+    sed -n "/^    $first\$/,/^\$/{/^\$/q;s/^    //;p;}" "$here/../README.md" > "$work/shown"
+    diff "$work/$1.expected" "$work/shown" && return
+    echo "README.md shows other lines of examples/$1.c" >&2
     exit 1
-fi
+}
+shown file
 
 # The lines that the page shows, by hand from the requirements.
 sed -n 's/^    //p' "$here/../docs/VIEW-AGAIN.md" > "$work/again.expected"
