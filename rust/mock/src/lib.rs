@@ -2,11 +2,13 @@
 
 mod answers;
 mod lent;
+mod next;
 
 use answers::{across, answered, compacted, found, key, object, part};
 use answers::{ezk_answer, ezk_chunk_key, ezk_compacted, ezk_file_answer};
 use answers::{ezk_found, ezk_object, ezk_part};
 use lent::{bytes, numbers, room};
+use next::{ezk_file_next, ezk_next, file_next, next};
 
 /// # Safety
 /// As the C header says: each pointer has as many bytes as its length.
@@ -89,6 +91,43 @@ pub unsafe extern "C" fn ezk_file_plan(
     let (lists, lengths) = (bytes(lists, lists_len), numbers(lengths, lengths_count));
     let file = second::File { lists, lengths, first_index, file_len };
     across(second::file_plan(&file, block_size, start, count, room(out, out_len)))
+}
+
+/// # Safety
+/// As for [`ezk_check`].
+#[no_mangle]
+pub unsafe extern "C" fn ezk_next_piece(
+    list: *const u8,
+    list_len: usize,
+    index: u64,
+    chunk_len: u64,
+    block_size: u64,
+    start: u64,
+    count: u64,
+    at: u64,
+) -> ezk_next {
+    let list = bytes(list, list_len);
+    next(second::next_piece(list, index, chunk_len, block_size, start, count, at), at)
+}
+
+/// # Safety
+/// As for [`ezk_file_plan`].
+#[no_mangle]
+pub unsafe extern "C" fn ezk_next_file_piece(
+    lists: *const u8,
+    lists_len: usize,
+    lengths: *const u64,
+    lengths_count: usize,
+    first_index: u64,
+    file_len: u64,
+    block_size: u64,
+    start: u64,
+    count: u64,
+    at: u64,
+) -> ezk_file_next {
+    let (lists, lengths) = (bytes(lists, lists_len), numbers(lengths, lengths_count));
+    let file = second::File { lists, lengths, first_index, file_len };
+    file_next(second::next_file_piece(&file, block_size, start, count, at), at)
 }
 
 /// # Safety
