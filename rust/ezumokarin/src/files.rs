@@ -7,10 +7,11 @@ use std::fmt;
 use crate::refusal::passed;
 use crate::{sys, Refusal};
 
-/// A refusal of [`file_plan`], and which list is at fault.
+/// A refusal of [`file_plan`] or of [`next_file_piece`](crate::next_file_piece()), and which list is
+/// at fault.
 #[derive(Clone, Copy, Debug, PartialEq, Eq, Hash)]
 pub struct ListRefusal {
-    /// Why there is no plan; its place is counted in the refused list.
+    /// Why there is no answer; its place is counted in the refused list.
     pub refusal: Refusal,
     /// The chunk index of the refused list, for refusals 1 to 6 and 16; none where no list is at fault.
     pub index: Option<u64>,
@@ -21,6 +22,8 @@ pub struct ListRefusal {
 /// lengths in bytes; there are 1 to 16. `start` counts from the first of these chunks, not from the
 /// file's beginning; the read is cut to the file's end, at `file_len`, and to that of the last
 /// list's chunk. No piece crosses the edge of a chunk, and places count from the start of the read.
+///
+/// [`file_pieces`](crate::file_pieces()) gives the plan piece by piece, without room for it all.
 ///
 /// A plan has at most 4 x records + 2 x lists + bytes of the read / block size pieces, where records
 /// are those of all lists. With room for so many, of [`Piece::LEN`](crate::Piece::LEN) bytes each,
@@ -64,13 +67,16 @@ pub fn file_plan(
 ) -> Result<usize, ListRefusal> {
     let answer =
         sys::file_plan(lists, lengths, first_index, file_len, block_size, start, count, out);
-    match passed(answer.refusal, answer.place) {
-        Ok(()) => Ok(answer.count as usize),
-        Err(refusal) => {
-            let index = refusal.is_of_list().then_some(answer.index);
-            Err(ListRefusal { refusal, index })
-        }
-    }
+    lists_passed(answer.refusal, answer.place, answer.index)?;
+    Ok(answer.count as usize)
+}
+
+/// `Ok` for number 0, else the refusal of that number, with the index where it speaks of a list.
+pub(crate) fn lists_passed(number: u64, place: u64, index: u64) -> Result<(), ListRefusal> {
+    passed(number, place).map_err(|refusal| {
+        let index = refusal.is_of_list().then_some(index);
+        ListRefusal { refusal, index }
+    })
 }
 
 impl fmt::Display for ListRefusal {

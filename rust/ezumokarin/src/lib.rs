@@ -30,11 +30,13 @@ mod history;
 mod keys;
 mod lists;
 mod names;
+mod next;
 mod piece;
 mod record;
 mod refusal;
 #[allow(unsafe_code)]
 pub mod sys;
+mod walk;
 
 pub use files::{file_plan, ListRefusal};
 pub use find::{find, Found};
@@ -43,9 +45,11 @@ pub use keys::{read_redis_key, read_tkv_key, write_redis_key, write_tkv_key, Chu
 pub use lists::{check, compact, read_plan, tidy, view, Compacted};
 pub use names::{read_full_name, read_object_name, FullName, ObjectName};
 pub use names::{write_full_name, write_object_name};
+pub use next::{next_file_piece, next_piece, Next};
 pub use piece::{pieces, Location, Piece};
 pub use record::{records, Record};
 pub use refusal::Refusal;
+pub use walk::{file_pieces, read_pieces, FilePieces, ReadPieces};
 
 /// Bytes of a chunk: 64 MiB.
 pub const CHUNK: u64 = 67_108_864;

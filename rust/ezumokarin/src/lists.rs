@@ -82,7 +82,9 @@ pub fn tidy(list: &[u8], out: &mut [u8]) -> Result<usize, Refusal> {
 
 /// Writes the plan of a read of `count` bytes from `start`, cut to the chunk length, and
 /// returns its length in bytes. Each piece carries `index`, that of the chunk in its file;
-/// [`file_plan`](crate::file_plan()) reads across chunks. Refusals: 7, 21, 8, 1 to 6, 16, 12.
+/// [`file_plan`](crate::file_plan()) reads across chunks, and
+/// [`read_pieces`](crate::read_pieces()) gives the plan piece by piece, without room for it all.
+/// Refusals: 7, 21, 8, 1 to 6, 16, 12.
 ///
 /// ```
 /// use ezumokarin::{pieces, read_plan, Piece, Location, Record};

@@ -55,6 +55,68 @@ pub struct ezk_file_answer {
     pub count: u64,
 }
 
+/// What `ezk_next_piece` returns.
+#[repr(C)]
+#[derive(Clone, Copy, Debug, Default, PartialEq, Eq)]
+pub struct ezk_next {
+    /// 0, or the number of the refusal.
+    pub refusal: u64,
+    /// The place of the refused record, for refusals 3 to 6 and 16.
+    pub place: u64,
+    /// 1 if no byte of the read is left, else 0, also on a refusal.
+    pub finished: u64,
+    /// The next place; once finished, the place that was given.
+    pub next: u64,
+    /// The piece's mark: 0x5242 for `RB`, 0x525A for `RZ`.
+    pub mark: u64,
+    /// The index of its chunk.
+    pub index: u64,
+    /// Its place in the read, which is the place that was given.
+    pub at: u64,
+    /// Its slice; this and the next three are 0 for `RZ`.
+    pub id: u64,
+    /// The number of the block in its slice.
+    pub block: u64,
+    /// The block length.
+    pub block_len: u64,
+    /// Place of the first byte in the block.
+    pub in_block: u64,
+    /// How many bytes.
+    pub len: u64,
+}
+
+/// What `ezk_next_file_piece` returns.
+#[repr(C)]
+#[derive(Clone, Copy, Debug, Default, PartialEq, Eq)]
+pub struct ezk_file_next {
+    /// 0, or the number of the refusal.
+    pub refusal: u64,
+    /// The place of the refused record in its list, for refusals 3 to 6 and 16.
+    pub place: u64,
+    /// The chunk index of the refused list, for refusals 1 to 6 and 16; else 0.
+    pub list_index: u64,
+    /// From here on as in [`ezk_next`].
+    pub finished: u64,
+    /// The next place.
+    pub next: u64,
+    /// The piece's mark.
+    pub mark: u64,
+    /// The index of its chunk.
+    pub index: u64,
+    /// Its place in the read.
+    pub at: u64,
+    /// Its slice.
+    pub id: u64,
+    /// The number of the block in its slice.
+    pub block: u64,
+    /// The block length.
+    pub block_len: u64,
+    /// Place of the first byte in the block.
+    pub in_block: u64,
+    /// How many bytes.
+    pub len: u64,
+}
+
 /// What compaction returns.
 #[repr(C)]
 #[derive(Clone, Copy, Debug, Default, PartialEq, Eq)]
@@ -140,6 +202,13 @@ macro_rules! fields {
 fields!(ezk_answer: refusal, place, count);
 fields!(ezk_found: refusal, place, found, segment, pos, id, size, off, len);
 fields!(ezk_file_answer: refusal, place, index, count);
+fields!(
+    ezk_next: refusal, place, finished, next, mark, index, at, id, block, block_len, in_block, len
+);
+fields!(
+    ezk_file_next: refusal, place, list_index, finished, next, mark, index, at, id, block,
+    block_len, in_block, len
+);
 fields!(ezk_compacted: refusal, place, plan, list);
 fields!(ezk_part: refusal, place, rewritten, offset, length);
 fields!(ezk_object: refusal, place, id, block, length, volume);
@@ -181,6 +250,28 @@ extern "C" {
         out: *mut u8,
         out_len: usize,
     ) -> ezk_file_answer;
+    pub fn ezk_next_piece(
+        list: *const u8,
+        list_len: usize,
+        index: u64,
+        chunk_len: u64,
+        block_size: u64,
+        start: u64,
+        count: u64,
+        at: u64,
+    ) -> ezk_next;
+    pub fn ezk_next_file_piece(
+        lists: *const u8,
+        lists_len: usize,
+        lengths: *const u64,
+        lengths_count: usize,
+        first_index: u64,
+        file_len: u64,
+        block_size: u64,
+        start: u64,
+        count: u64,
+        at: u64,
+    ) -> ezk_file_next;
     pub fn ezk_compact(
         list: *const u8,
         list_len: usize,
@@ -285,6 +376,48 @@ pub fn file_plan(
             count,
             out.as_mut_ptr(),
             out.len(),
+        )
+    }
+}
+
+/// `ezk_next_piece`
+pub fn next_piece(
+    list: &[u8],
+    index: u64,
+    chunk_len: u64,
+    block_size: u64,
+    start: u64,
+    count: u64,
+    at: u64,
+) -> ezk_next {
+    let (list, list_len) = (list.as_ptr(), list.len());
+    unsafe { ezk_next_piece(list, list_len, index, chunk_len, block_size, start, count, at) }
+}
+
+/// `ezk_next_file_piece`
+#[allow(clippy::too_many_arguments)] // these are the call's own inputs
+pub fn next_file_piece(
+    lists: &[u8],
+    lengths: &[u64],
+    first_index: u64,
+    file_len: u64,
+    block_size: u64,
+    start: u64,
+    count: u64,
+    at: u64,
+) -> ezk_file_next {
+    unsafe {
+        ezk_next_file_piece(
+            lists.as_ptr(),
+            lists.len(),
+            lengths.as_ptr(),
+            lengths.len(),
+            first_index,
+            file_len,
+            block_size,
+            start,
+            count,
+            at,
         )
     }
 }

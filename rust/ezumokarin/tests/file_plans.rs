@@ -2,16 +2,11 @@
 
 mod common;
 
-use common::{apart, lines, list, list_of_000};
+use common::{apart, joined, lines, list, list_of_000};
 use ezumokarin::{file_plan, Piece, CHUNK};
 
 const BLOCK: u64 = 4_194_304;
 const MIB: u64 = 1_048_576;
-
-/// Lists of chunks, one behind the other, and their lengths.
-fn joined(lists: &[Vec<u8>]) -> (Vec<u8>, Vec<u64>) {
-    (lists.concat(), lists.iter().map(|list| list.len() as u64).collect())
-}
 
 /// The read of a file from chunk 5 on has these pieces. The file has `len` bytes from there.
 fn reads(lists: &[Vec<u8>], len: u64, (start, count): (u64, u64), plan: &str) {

@@ -29,13 +29,19 @@ pub fn apart(bytes: u32) -> Vec<Row> {
     (0..bytes).map(|i| (2 * i + 1, 7 + u64::from(i), 1, 0, 1)).collect()
 }
 
-/// The pieces of a plan, a line each, with their fields in the order of their bytes: mark, chunk
-/// index, place, id, block, block length, place in block, length.
+/// Lists of chunks, one behind the other, and their lengths.
+pub fn joined(lists: &[Vec<u8>]) -> (Vec<u8>, Vec<u64>) {
+    (lists.concat(), lists.iter().map(|list| list.len() as u64).collect())
+}
+
+/// The pieces of a plan, a line each.
 pub fn lines(plan: &[u8]) -> String {
     pieces(plan).map(line).collect()
 }
 
-fn line(Piece { index, place, from, len }: Piece) -> String {
+/// A piece with its fields in the order of their bytes: mark, chunk index, place, id, block, block
+/// length, place in block, length.
+pub fn line(Piece { index, place, from, len }: Piece) -> String {
     match from {
         Location::Zeros => format!("RZ {index} {place} 0 0 0 0 {len}\n"),
         Location::Object { id, block, length, at } => {
