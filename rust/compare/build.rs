@@ -1,11 +1,13 @@
 //! Compiles header.c against the project's C header, or against the one in the folder
 //! EZUMOKARIN_INCLUDE (an absolute path), so that a changed header can be tried.
-//! EZUMOKARIN_SPOIL_VIEW, EZUMOKARIN_SPOIL_FILE and EZUMOKARIN_SPOIL_PART hold C that header.c runs
-//! on every answer of their calls, so that the comparison can be tried.
+//! EZUMOKARIN_SPOIL_VIEW and its like (those of `SPOILT`) hold C that header.c runs on every answer of
+//! their calls, so that the comparison can be tried.
 
 use std::env;
 use std::path::PathBuf;
 use std::process::{exit, Command};
+
+const SPOILT: [&str; 5] = ["VIEW", "FILE", "NEXT", "FILE_NEXT", "PART"];
 
 fn main() {
     let here = PathBuf::from(env::var_os("CARGO_MANIFEST_DIR").expect("cargo sets this"));
@@ -22,7 +24,7 @@ fn main() {
     run(Command::new("gcc")
         .args(["-std=c11", "-O2", "-Wall", "-Wextra", "-Wconversion", "-Werror", "-c", "-I"])
         .arg(&include)
-        .args(["VIEW", "FILE", "PART"].map(spoiling))
+        .args(SPOILT.map(spoiling))
         .arg(&source)
         .arg("-o")
         .arg(&object));

@@ -16,6 +16,12 @@
 #ifndef SPOIL_FILE
 #define SPOIL_FILE
 #endif
+#ifndef SPOIL_FILE_NEXT
+#define SPOIL_FILE_NEXT
+#endif
+#ifndef SPOIL_NEXT
+#define SPOIL_NEXT
+#endif
 #ifndef SPOIL_PART
 #define SPOIL_PART
 #endif
@@ -50,6 +56,35 @@ FIELD(ezk_file_answer, place, 1);
 FIELD(ezk_file_answer, index, 2);
 FIELD(ezk_file_answer, count, 3);
 FIELDS(ezk_file_answer, 4);
+
+FIELD(ezk_next, refusal, 0);
+FIELD(ezk_next, place, 1);
+FIELD(ezk_next, finished, 2);
+FIELD(ezk_next, next, 3);
+FIELD(ezk_next, mark, 4);
+FIELD(ezk_next, index, 5);
+FIELD(ezk_next, at, 6);
+FIELD(ezk_next, id, 7);
+FIELD(ezk_next, block, 8);
+FIELD(ezk_next, block_len, 9);
+FIELD(ezk_next, in_block, 10);
+FIELD(ezk_next, len, 11);
+FIELDS(ezk_next, 12);
+
+FIELD(ezk_file_next, refusal, 0);
+FIELD(ezk_file_next, place, 1);
+FIELD(ezk_file_next, list_index, 2);
+FIELD(ezk_file_next, finished, 3);
+FIELD(ezk_file_next, next, 4);
+FIELD(ezk_file_next, mark, 5);
+FIELD(ezk_file_next, index, 6);
+FIELD(ezk_file_next, at, 7);
+FIELD(ezk_file_next, id, 8);
+FIELD(ezk_file_next, block, 9);
+FIELD(ezk_file_next, block_len, 10);
+FIELD(ezk_file_next, in_block, 11);
+FIELD(ezk_file_next, len, 12);
+FIELDS(ezk_file_next, 13);
 
 FIELD(ezk_compacted, refusal, 0);
 FIELD(ezk_compacted, place, 1);
@@ -104,6 +139,7 @@ static const struct {
     NAMED(EZK_RECORD),
     NAMED(EZK_PIECE),
     NAMED(EZK_TKV_KEY),
+    NAMED(EZK_LISTS),
 };
 
 /* The name of a constant, and its value; NULL behind the last one. */
@@ -141,6 +177,39 @@ static void file_answer(ezk_file_answer a, uint64_t *to)
     to[1] = a.place;
     to[2] = a.index;
     to[3] = a.count;
+}
+
+static void next(ezk_next a, uint64_t *to)
+{
+    to[0] = a.refusal;
+    to[1] = a.place;
+    to[2] = a.finished;
+    to[3] = a.next;
+    to[4] = a.mark;
+    to[5] = a.index;
+    to[6] = a.at;
+    to[7] = a.id;
+    to[8] = a.block;
+    to[9] = a.block_len;
+    to[10] = a.in_block;
+    to[11] = a.len;
+}
+
+static void file_next(ezk_file_next a, uint64_t *to)
+{
+    to[0] = a.refusal;
+    to[1] = a.place;
+    to[2] = a.list_index;
+    to[3] = a.finished;
+    to[4] = a.next;
+    to[5] = a.mark;
+    to[6] = a.index;
+    to[7] = a.at;
+    to[8] = a.id;
+    to[9] = a.block;
+    to[10] = a.block_len;
+    to[11] = a.in_block;
+    to[12] = a.len;
 }
 
 static void compacted(ezk_compacted a, uint64_t *to)
@@ -220,6 +289,25 @@ void via_file_plan(const uint8_t *lists, size_t lists_len, const uint64_t *lengt
                                       file_len, block_size, start, count, out, out_len);
     SPOIL_FILE
     file_answer(a, to);
+}
+
+void via_next_piece(const uint8_t *list, size_t list_len, uint64_t index, uint64_t chunk_len,
+                    uint64_t block_size, uint64_t start, uint64_t count, uint64_t at, uint64_t *to)
+{
+    ezk_next a = ezk_next_piece(list, list_len, index, chunk_len, block_size, start, count, at);
+    SPOIL_NEXT
+    next(a, to);
+}
+
+void via_next_file_piece(const uint8_t *lists, size_t lists_len, const uint64_t *lengths,
+                         size_t lengths_count, uint64_t first_index, uint64_t file_len,
+                         uint64_t block_size, uint64_t start, uint64_t count, uint64_t at,
+                         uint64_t *to)
+{
+    ezk_file_next a = ezk_next_file_piece(lists, lists_len, lengths, lengths_count, first_index,
+                                          file_len, block_size, start, count, at);
+    SPOIL_FILE_NEXT
+    file_next(a, to);
 }
 
 void via_compact(const uint8_t *list, size_t list_len, uint64_t index, uint64_t block_size,

@@ -2,7 +2,7 @@
 //! was compiled from the header. Every call is made both ways.
 
 use ezumokarin::sys::{self, ezk_answer, ezk_chunk_key, ezk_compacted, ezk_file_answer};
-use ezumokarin::sys::{ezk_found, ezk_object, ezk_part};
+use ezumokarin::sys::{ezk_file_next, ezk_found, ezk_next, ezk_object, ezk_part};
 
 use crate::header;
 
@@ -16,6 +16,8 @@ pub struct Binding {
     pub tidy: fn(&[u8], &mut [u8]) -> ezk_answer,
     pub read_plan: fn(&[u8], u64, u64, u64, u64, u64, &mut [u8]) -> ezk_answer,
     pub file_plan: fn(&[u8], &[u64], u64, u64, u64, u64, u64, &mut [u8]) -> ezk_file_answer,
+    pub next_piece: fn(&[u8], u64, u64, u64, u64, u64, u64) -> ezk_next,
+    pub next_file_piece: fn(&[u8], &[u64], u64, u64, u64, u64, u64, u64) -> ezk_file_next,
     pub compact: fn(&[u8], u64, u64, u64, u64, &mut [u8], &mut [u8]) -> ezk_compacted,
     pub added: fn(&[u8], &[u8]) -> ezk_part,
     pub write_object_name: fn(u64, u64, u64, &mut [u8]) -> ezk_answer,
@@ -36,6 +38,8 @@ const RUST: Binding = Binding {
     tidy: sys::tidy,
     read_plan: sys::read_plan,
     file_plan: sys::file_plan,
+    next_piece: sys::next_piece,
+    next_file_piece: sys::next_file_piece,
     compact: sys::compact,
     added: sys::added,
     write_object_name: sys::write_object_name,

@@ -60,6 +60,22 @@ pub enum Call {
         count: u64,
         out: Room,
     },
+    NextPiece {
+        list: Vec<u8>,
+        index: u64,
+        chunk_len: u64,
+        block_size: u64,
+        start: u64,
+        count: u64,
+        at: u64,
+    },
+    NextFilePiece {
+        file: Joined,
+        block_size: u64,
+        start: u64,
+        count: u64,
+        at: u64,
+    },
     Compact {
         list: Vec<u8>,
         index: u64,
@@ -117,6 +133,7 @@ impl Call {
             | Call::View { list, .. }
             | Call::Tidy { list, .. }
             | Call::ReadPlan { list, .. }
+            | Call::NextPiece { list, .. }
             | Call::Compact { list, .. } => Some(list),
             _ => None,
         }
@@ -130,6 +147,8 @@ impl Call {
             Call::Tidy { .. } => "tidy",
             Call::ReadPlan { .. } => "read_plan",
             Call::FilePlan { .. } => "file_plan",
+            Call::NextPiece { .. } => "next_piece",
+            Call::NextFilePiece { .. } => "next_file_piece",
             Call::Compact { .. } => "compact",
             Call::Added { .. } => "added",
             Call::WriteObjectName { .. } => "write_object_name",

@@ -3,6 +3,7 @@
 
 mod files;
 mod history;
+mod next;
 mod seeking;
 
 use second::limits::{CHUNK, LIST_RECORDS, RECORD};
@@ -17,7 +18,7 @@ const MIB: u64 = 1_048_576;
 const BLOCK: u64 = 4_194_304;
 
 pub fn all() -> Vec<Call> {
-    [
+    let calls = [
         lists(),
         zero_records(),
         sizes(),
@@ -30,7 +31,9 @@ pub fn all() -> Vec<Call> {
         names(),
         keys(),
     ]
-    .concat()
+    .concat();
+    let pieces = next::of(&calls);
+    [calls, pieces].concat()
 }
 
 fn list(rows: &[(u64, u64, u64, u64, u64)]) -> Vec<u8> {

@@ -5,6 +5,7 @@ mod faulty;
 mod files;
 mod forms;
 mod history;
+mod next;
 mod seeking;
 
 use second::limits::{CHUNK, INDEX_MAX, RECORD};
@@ -67,6 +68,8 @@ pub fn run(tally: &mut Tally) {
         read_plan(tally, variant);
         files::file_plan(tally, variant);
         files::two_bad_lists(tally, variant);
+        next::next_piece(tally, variant);
+        next::next_file_piece(tally, variant);
         compact(tally, variant);
         history::added(tally, variant);
     }

@@ -3,7 +3,8 @@
 
 use std::ffi::{c_char, CStr};
 
-use second::limits::{CHUNK, INDEX_MAX, LIST_RECORDS, PIECE, RECORD, TIDIED_RECORDS, TKV_KEY};
+use second::limits::{CHUNK, FILE_LISTS, INDEX_MAX, LIST_RECORDS, PIECE, RECORD};
+use second::limits::{TIDIED_RECORDS, TKV_KEY};
 use second::{Record, Refusal};
 
 use crate::lists::combed;
@@ -53,6 +54,7 @@ fn sizes() -> Vec<(&'static str, u64)> {
         ("EZK_RECORD", RECORD as u64),
         ("EZK_PIECE", PIECE as u64),
         ("EZK_TKV_KEY", TKV_KEY as u64),
+        ("EZK_LISTS", FILE_LISTS as u64),
     ]
 }
 

@@ -1,5 +1,5 @@
-//! What `file_plan` is asked: lists of 1 to 16 chunks, often with something that goes on over an
-//! edge, now and then refused ones or another number; and reads about edges and ends.
+//! What is read of files: lists of 1 to 16 chunks, often with something that goes on over an edge,
+//! now and then refused ones or another number; and reads about edges and ends.
 
 use second::limits::{CHUNK, FILE_LISTS, INDEX_MAX};
 use second::Record;

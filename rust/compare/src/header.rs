@@ -2,7 +2,7 @@
 //! hands the fields over in a row of numbers.
 
 use ezumokarin::sys::{ezk_answer, ezk_chunk_key, ezk_compacted, ezk_file_answer};
-use ezumokarin::sys::{ezk_found, ezk_object, ezk_part};
+use ezumokarin::sys::{ezk_file_next, ezk_found, ezk_next, ezk_object, ezk_part};
 
 use crate::binding::Binding;
 
@@ -14,6 +14,8 @@ pub const BINDING: Binding = Binding {
     tidy,
     read_plan,
     file_plan,
+    next_piece,
+    next_file_piece,
     compact,
     added,
     write_object_name,
@@ -60,6 +62,30 @@ extern "C" {
         count: u64,
         out: Out,
         out_len: usize,
+        to: To,
+    );
+    fn via_next_piece(
+        list: In,
+        len: usize,
+        index: u64,
+        chunk_len: u64,
+        block_size: u64,
+        start: u64,
+        count: u64,
+        at: u64,
+        to: To,
+    );
+    fn via_next_file_piece(
+        lists: In,
+        lists_len: usize,
+        lengths: Numbers,
+        lengths_count: usize,
+        first_index: u64,
+        file_len: u64,
+        block_size: u64,
+        start: u64,
+        count: u64,
+        at: u64,
         to: To,
     );
     fn via_compact(
@@ -110,6 +136,45 @@ fn answer([refusal, place, count]: [u64; 3]) -> ezk_answer {
 fn found(row: [u64; 9]) -> ezk_found {
     let [refusal, place, found, segment, pos, id, size, off, len] = row;
     ezk_found { refusal, place, found, segment, pos, id, size, off, len }
+}
+
+fn next(row: [u64; 12]) -> ezk_next {
+    let [refusal, place, finished, next, mark, index, at, piece @ ..] = row;
+    let [id, block, block_len, in_block, len] = piece;
+    ezk_next {
+        refusal,
+        place,
+        finished,
+        next,
+        mark,
+        index,
+        at,
+        id,
+        block,
+        block_len,
+        in_block,
+        len,
+    }
+}
+
+fn file_next(row: [u64; 13]) -> ezk_file_next {
+    let [refusal, place, list_index, finished, next, mark, index, at, piece @ ..] = row;
+    let [id, block, block_len, in_block, len] = piece;
+    ezk_file_next {
+        refusal,
+        place,
+        list_index,
+        finished,
+        next,
+        mark,
+        index,
+        at,
+        id,
+        block,
+        block_len,
+        in_block,
+        len,
+    }
 }
 
 fn part([refusal, place, rewritten, offset, length]: [u64; 5]) -> ezk_part {
@@ -177,6 +242,40 @@ fn file_plan(
         via_file_plan(lists, lists_len, row, rows, first, end, size, start, count, out, out_len, to)
     });
     ezk_file_answer { refusal, place, index, count }
+}
+
+fn next_piece(
+    list: &[u8],
+    index: u64,
+    chunk_len: u64,
+    block_size: u64,
+    start: u64,
+    count: u64,
+    at: u64,
+) -> ezk_next {
+    let (list, len) = (list.as_ptr(), list.len());
+    next(filled(|to| unsafe {
+        via_next_piece(list, len, index, chunk_len, block_size, start, count, at, to)
+    }))
+}
+
+#[allow(clippy::too_many_arguments)] // these are the call's own inputs
+fn next_file_piece(
+    lists: &[u8],
+    lengths: &[u64],
+    first_index: u64,
+    file_len: u64,
+    block_size: u64,
+    start: u64,
+    count: u64,
+    at: u64,
+) -> ezk_file_next {
+    let (lists, lists_len) = (lists.as_ptr(), lists.len());
+    let (row, rows) = (lengths.as_ptr(), lengths.len());
+    let (first, end, size) = (first_index, file_len, block_size);
+    file_next(filled(|to| unsafe {
+        via_next_file_piece(lists, lists_len, row, rows, first, end, size, start, count, at, to)
+    }))
 }
 
 fn compact(

@@ -6,13 +6,16 @@ use std::iter;
 use second::limits::{CHUNK, LIST_RECORDS, TIDIED_RECORDS};
 use second::Record;
 
-use crate::{ids, numbers};
+use crate::{ids, joining, numbers};
 use rng::Rng;
 
 /// The shape with about twice as many runs as records.
 const COMB: u64 = 8;
 /// The shape with about as many slices as records.
 const SLICES: u64 = 10;
+/// The shape whose parts join to few pieces, and the last of all; it takes two turns.
+const JOINING: u64 = 11;
+const TURNS: u64 = 13;
 
 /// A list that is mostly sound; `mutate::list` spoils some.
 pub fn sound(rng: &mut Rng) -> Vec<u8> {
@@ -25,10 +28,12 @@ pub fn sound(rng: &mut Rng) -> Vec<u8> {
 
 /// Records that pass 3 to 6. Now and then a slice keeps the several sizes of its shape.
 fn some_records(rng: &mut Rng) -> Vec<Record> {
-    let shape = rng.below(11);
+    let shape = rng.below(TURNS).min(JOINING);
     let count = records(rng, shape);
-    if shape == SLICES {
-        return ids::many_slices(rng, count);
+    match shape {
+        SLICES => return ids::many_slices(rng, count),
+        JOINING => return joining::records(rng, count),
+        _ => {}
     }
     let mut records: Vec<Record> = (0..count).map(|i| record(rng, shape, i, count)).collect();
     if !rng.once_in(8) {
@@ -71,7 +76,8 @@ fn records(rng: &mut Rng, shape: u64) -> u64 {
     match rng.below(2_000) {
         0..=11 => LIST_RECORDS as u64 - 8 + rng.below(17),
         12..=100 if shape == COMB => TIDIED_RECORDS as u64 / 2 - 32 + rng.below(80),
-        12..=600 if shape == SLICES => 150 + rng.below(300),
+        12..=1_000 if shape == SLICES => 150 + rng.below(300),
+        12..=1_200 if shape == JOINING => 20 + rng.below(60),
         12..=70 => rng.below(120),
         _ => rng.below(11),
     }

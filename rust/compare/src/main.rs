@@ -1,5 +1,6 @@
 //! `compare [calls] [seed]`: every call of the archive against the second program, each made
 //! through the Rust crate and through C compiled from the header; and the header's constants.
+//! `calls` is the number of random calls, which are made beside the chosen ones.
 //!
 //! Prints what was compared and how many differences were found; the exit status is 1 if
 //! there was one. The same seed makes the same calls.
@@ -15,6 +16,7 @@ mod header;
 mod history;
 mod ids;
 mod joined;
+mod joining;
 mod lent;
 mod lists;
 mod marks;
@@ -23,6 +25,7 @@ mod mutate;
 mod null;
 mod numbers;
 mod pair;
+mod places;
 mod random;
 mod refused;
 mod run;

@@ -1,8 +1,9 @@
-//! Kinds of lists, of plans, of seeking, of pairs of lists and of reads across chunks that random
-//! calls must have met, each counted in a table of its own.
+//! Kinds of lists, of plans, of seeking, of pairs of lists, of reads across chunks and of places in a
+//! read that random calls must have met, each counted in a table of its own.
 
 mod files;
 mod history;
+mod next;
 mod plans;
 mod seeking;
 
@@ -15,7 +16,7 @@ use crate::call::Call;
 use crate::tally::Tally;
 
 /// The calls that take one list.
-const CALLS: [&str; 5] = ["check", "view", "tidy", "read_plan", "compact"];
+const CALLS: [&str; 6] = ["check", "view", "tidy", "read_plan", "next_piece", "compact"];
 
 /// A kind of list, and a refusal (0 for an answer) that each call must give to one of them.
 struct Mark {
@@ -42,6 +43,7 @@ pub fn count(tally: &mut Tally, call: &Call, refusal: u64) {
     history::count(tally, call, refusal);
     files::count(tally, call, refusal);
     plans::count(tally, call, refusal);
+    next::count(tally, call, refusal);
     let Some(list) = call.list() else {
         return;
     };
@@ -58,7 +60,7 @@ pub fn missed(tally: &Tally) -> Vec<String> {
     let said =
         |(mark, call): (&Mark, &str)| format!("no {call} of {} gives {}", mark.name, mark.met);
     let others = seeking::missed(tally).chain(history::missed(tally)).chain(files::missed(tally));
-    let others = others.chain(plans::missed(tally));
+    let others = others.chain(plans::missed(tally)).chain(next::missed(tally));
     missed.map(said).chain(others).collect()
 }
 

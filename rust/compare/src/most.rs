@@ -23,29 +23,37 @@ pub fn lend(rng: &mut Rng, call: &mut Call) {
 
 /// Four pieces a record, two a list and one a block; 0 bytes for a call that writes no plan.
 pub fn bytes(call: &Call) -> usize {
-    let (records, lists, read, block_size) = match call {
-        Call::ReadPlan { list, chunk_len, block_size, start, count, .. } => {
-            (list.len() / RECORD, 1, cut(CHUNK.min(*chunk_len), *start, *count), block_size)
+    let (records, lists, block_size) = match call {
+        Call::ReadPlan { list, block_size, .. } => (list.len() / RECORD, 1, block_size),
+        Call::FilePlan { file, block_size, .. } => {
+            (file.lists.len() / RECORD, file.lengths.len(), block_size)
         }
-        Call::FilePlan { file, block_size, start, count, .. } => {
-            let end = file.file_end().min(file.of_lists());
-            (file.lists.len() / RECORD, file.lengths.len(), cut(end, *start, *count), block_size)
-        }
-        Call::Compact { list, block_size, k, .. } => {
-            let records = list.chunks_exact(RECORD).map(Record::from_bytes);
-            let first: Vec<Record> = records.take(*k as usize).collect();
-            (first.len(), 1, covered(&first), block_size)
-        }
+        Call::Compact { list, block_size, k, .. } => (first(list, *k).len(), 1, block_size),
         _ => return 0,
     };
     // A smaller block size has no plan, and would ask for far too much.
-    let blocks = read / BLOCK_SIZE_MIN.max(*block_size);
+    let blocks = read(call) / BLOCK_SIZE_MIN.max(*block_size);
     (4 * records + 2 * lists + blocks as usize) * PIECE
 }
 
-/// How many bytes are read up to this end.
-fn cut(end: u64, start: u64, count: u64) -> u64 {
-    count.min(end.saturating_sub(start))
+/// How many bytes a call reads, told by its numbers alone.
+pub fn read(call: &Call) -> u64 {
+    let (end, start, count) = match call {
+        Call::ReadPlan { chunk_len, start, count, .. }
+        | Call::NextPiece { chunk_len, start, count, .. } => (CHUNK.min(*chunk_len), start, count),
+        Call::FilePlan { file, start, count, .. }
+        | Call::NextFilePiece { file, start, count, .. } => {
+            (file.file_end().min(file.of_lists()), start, count)
+        }
+        Call::Compact { list, k, .. } => return covered(&first(list, *k)),
+        _ => return 0,
+    };
+    (*count).min(end.saturating_sub(*start))
+}
+
+/// The first `k` records of a list, or all of them.
+fn first(list: &[u8], k: u64) -> Vec<Record> {
+    list.chunks_exact(RECORD).map(Record::from_bytes).take(k as usize).collect()
 }
 
 /// How many bytes lie between the first and the last that records cover, with both.

@@ -8,7 +8,8 @@ use ezumokarin::sys::*;
 use second::limits::RECORD;
 use second::File;
 
-use crate::expected::{across, answered, chunk_key, compacted, found, object, part};
+use crate::expected::part;
+use crate::expected::{across, answered, chunk_key, compacted, file_next, found, next, object};
 use crate::tally::Tally;
 
 const ORIGIN: &str = "null pointers";
@@ -27,6 +28,9 @@ pub fn run(tally: &mut Tally) {
             let got = ezk_read_plan(nil, 0, 7, chunk_len, BLOCK, 0, 9, out, 0);
             let want = second::read_plan(&[], 7, chunk_len, BLOCK, 0, 9, &mut []);
             same(tally, "read_plan", got, answered(want));
+            let got = ezk_next_piece(nil, 0, 7, chunk_len, BLOCK, 0, 9, 2);
+            let want = second::next_piece(&[], 7, chunk_len, BLOCK, 0, 9, 2);
+            same(tally, "next_piece", got, next(want, 2));
         }
         for segments in [0, 1, u64::MAX] {
             let want = found(second::find(&[], segments, 0));
@@ -80,6 +84,10 @@ fn files(tally: &mut Tally) {
         let got =
             unsafe { ezk_file_plan(nil, 0, lengths, count, 0, file_len, BLOCK, 0, 9, out, 0) };
         same(tally, "file_plan", got, across(want));
+        let want = second::next_file_piece(&file, BLOCK, 0, 9, 2);
+        let got =
+            unsafe { ezk_next_file_piece(nil, 0, lengths, count, 0, file_len, BLOCK, 0, 9, 2) };
+        same(tally, "next_file_piece", got, file_next(want, 2));
     }
 }
 

@@ -2,15 +2,15 @@
 
 use crate::call::{Call, Room};
 use crate::tally::Tally;
-use crate::{files, history, lists, marks, most, mutate, numbers, texts, views};
+use crate::{files, history, lists, marks, most, mutate, numbers, places, texts, views};
 use rng::Rng;
 
 const ORIGIN: &str = "random";
 
-/// Compares random calls until `calls` calls have been compared in all.
+/// Compares as many random calls, whatever the number of chosen ones.
 pub fn run(tally: &mut Tally, seed: u64, calls: u64) {
     let mut rng = Rng::new(seed);
-    while tally.compared() < calls {
+    for _ in 0..calls {
         let mut call = any_call(&mut rng);
         if rng.once_in(4) {
             most::lend(&mut rng, &mut call);
@@ -21,7 +21,7 @@ pub fn run(tally: &mut Tally, seed: u64, calls: u64) {
 }
 
 /// Random calls must meet every refusal that the chosen calls do, and every kind of list, of plan,
-/// of seeking, of pair and of read across chunks that is marked; else they are too tame.
+/// of seeking, of pair, of read across chunks and of place that is marked; else they are too tame.
 pub fn reach(tally: &mut Tally) {
     for missed in marks::missed(tally) {
         tally.difference("random calls", &missed);
@@ -32,7 +32,7 @@ pub fn reach(tally: &mut Tally) {
 }
 
 fn any_call(rng: &mut Rng) -> Call {
-    match rng.below(18) {
+    match rng.below(24) {
         0..=9 => with_list(rng),
         10 => in_view(rng),
         11 => Call::Added { pair: history::pair(rng) },
@@ -40,8 +40,20 @@ fn any_call(rng: &mut Rng) -> Call {
             let out = room(rng);
             files::call(rng, out)
         }
+        15..=20 => next_piece(rng),
         _ => with_text(rng),
     }
+}
+
+/// Of one chunk as often as of a file.
+fn next_piece(rng: &mut Rng) -> Call {
+    let planned = if rng.once_in(2) {
+        let list = some_list(rng);
+        read_plan(rng, list, Room::Right)
+    } else {
+        files::call(rng, Room::Right)
+    };
+    places::somewhere(rng, planned)
 }
 
 fn in_view(rng: &mut Rng) -> Call {
@@ -51,22 +63,13 @@ fn in_view(rng: &mut Rng) -> Call {
 }
 
 fn with_list(rng: &mut Rng) -> Call {
-    let mut list = lists::sound(rng);
-    mutate::list(rng, &mut list);
+    let list = some_list(rng);
     let out = room(rng);
     match rng.below(9) {
         0 => Call::Check { list },
         1 | 2 => Call::View { chunk_len: numbers::chunk_len(rng), list, out },
         3 | 4 => Call::Tidy { list, out },
-        5 | 6 => Call::ReadPlan {
-            index: numbers::chunk_index(rng),
-            chunk_len: numbers::chunk_len(rng),
-            block_size: numbers::block_size(rng),
-            start: numbers::position(rng, &list),
-            count: numbers::count(rng, &list),
-            list,
-            out,
-        },
+        5 | 6 => read_plan(rng, list, out),
         _ => Call::Compact {
             index: numbers::chunk_index(rng),
             block_size: numbers::block_size(rng),
@@ -76,6 +79,24 @@ fn with_list(rng: &mut Rng) -> Call {
             plan: out,
             new_list: room(rng),
         },
+    }
+}
+
+fn some_list(rng: &mut Rng) -> Vec<u8> {
+    let mut list = lists::sound(rng);
+    mutate::list(rng, &mut list);
+    list
+}
+
+fn read_plan(rng: &mut Rng, list: Vec<u8>, out: Room) -> Call {
+    Call::ReadPlan {
+        index: numbers::chunk_index(rng),
+        chunk_len: numbers::chunk_len(rng),
+        block_size: numbers::block_size(rng),
+        start: numbers::position(rng, &list),
+        count: numbers::count(rng, &list),
+        list,
+        out,
     }
 }
 

@@ -1,6 +1,7 @@
 //! Makes one call through a binding of the archive and by the second program, and says what differs.
 
 mod file;
+mod next;
 mod two;
 
 use std::fmt::Debug;
@@ -50,6 +51,14 @@ pub fn run(binding: &Binding, call: &Call, shift: usize) -> Seen {
         }
         Call::FilePlan { file, block_size, start, count, out } => {
             file::writing(file, (*block_size, *start, *count), *out, shift, binding.file_plan)
+        }
+        Call::NextPiece { list, index, chunk_len, block_size, start, count, at } => {
+            let read = [*index, *chunk_len, *block_size, *start, *count];
+            next::of_chunk(list, read, *at, shift, binding.next_piece)
+        }
+        Call::NextFilePiece { file, block_size, start, count, at } => {
+            let read = (*block_size, *start, *count);
+            next::of_file(file, read, *at, shift, binding.next_file_piece)
         }
         Call::Compact { list, index, block_size, k, new_id, plan, new_list } => {
             let want = second::compact_bytes(list, *index, *block_size, *k, *new_id);

@@ -82,10 +82,6 @@ impl Tally {
         }
     }
 
-    pub fn compared(&self) -> u64 {
-        self.compared
-    }
-
     pub fn differences(&self) -> u64 {
         self.differences
     }

@@ -7,6 +7,7 @@ use super::faulty::faulty_list;
 use super::{block_size, expect, room, sets, Faults, BLOCK_SIZE};
 use crate::call::{Call, Room};
 use crate::joined::Joined;
+use crate::places;
 use crate::refused::NUMBERS;
 use crate::tally::Tally;
 
@@ -14,11 +15,8 @@ const LISTS: usize = 3;
 
 pub fn file_plan(tally: &mut Tally, variant: usize) {
     for faults in sets(&[21, 8, 1, 2, 3, 4, 5, 6, 16, 12]) {
-        let (bad_list, bad) = faulty_list(faults, variant);
-        for place in 0..LISTS {
-            let mut lists = sound();
-            lists[place] = bad_list.clone();
-            let file = file(lists, faults, variant);
+        let (files, bad) = one_bad_list(faults, variant);
+        for file in files {
             let block_size = block_size(faults, variant);
             let (start, count) = read(variant);
             let out = room(faults.has(12));
@@ -26,6 +24,17 @@ pub fn file_plan(tally: &mut Tally, variant: usize) {
             expect(tally, &call, faults.first(bad));
         }
     }
+}
+
+/// A file for each place of its bad list, and the refusal of that list's first bad record.
+pub fn one_bad_list(faults: Faults, variant: usize) -> ([Joined; LISTS], u64) {
+    let (bad_list, bad) = faulty_list(faults, variant);
+    let files = std::array::from_fn(|place| {
+        let mut lists = sound();
+        lists[place] = bad_list.clone();
+        file(lists, faults, variant)
+    });
+    (files, bad)
 }
 
 /// The first of two bad lists decides, whatever their numbers.
@@ -38,7 +47,11 @@ pub fn two_bad_lists(tally: &mut Tally, variant: usize) {
             let file = Joined::of(&lists, 5, u64::MAX);
             let (start, count) = read(variant);
             let (block_size, out) = (BLOCK_SIZE, Room::OneShort);
-            expect(tally, &Call::FilePlan { file, block_size, start, count, out }, number);
+            let planned = Call::FilePlan { file, block_size, start, count, out };
+            let next = places::asked(&planned, [0, 20, u64::MAX][variant]);
+            for call in [Some(planned), next].into_iter().flatten() {
+                expect(tally, &call, number);
+            }
         }
     }
 }
@@ -48,7 +61,7 @@ fn sound() -> Vec<Vec<u8>> {
 }
 
 /// Over everything, in the first chunk alone and in the last.
-fn read(variant: usize) -> (u64, u64) {
+pub fn read(variant: usize) -> (u64, u64) {
     [(0, u64::MAX), (40, 30), (2 * CHUNK + 1, CHUNK)][variant]
 }
 

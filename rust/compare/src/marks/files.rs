@@ -142,7 +142,7 @@ fn zeros_at_an_edge(a: &Asked) -> bool {
 }
 
 /// One object, at the next place.
-fn goes_on(before: &Piece, behind: &Piece) -> bool {
+pub fn goes_on(before: &Piece, behind: &Piece) -> bool {
     let Location::Object { id, block, length, at } = before.from else {
         return false;
     };

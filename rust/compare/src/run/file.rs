@@ -14,6 +14,32 @@ const GUARD: u64 = 0xeeee_eeee_eeee_eeee;
 
 type FilePlan = fn(&[u8], &[u64], u64, u64, u64, u64, u64, &mut [u8]) -> ezk_file_answer;
 
+/// The lists of a file and their lengths, lent between guards.
+pub struct LentLists {
+    pub lists: Lent,
+    lengths: Vec<u64>,
+}
+
+impl LentLists {
+    pub fn of(file: &Joined, shift: usize) -> LentLists {
+        LentLists { lists: Lent::holding(&file.lists, shift), lengths: guarded(&file.lengths) }
+    }
+
+    pub fn lengths(&self) -> &[u64] {
+        &self.lengths[1..self.lengths.len() - 1]
+    }
+
+    /// Both are still those of the file.
+    pub fn kept(&self, file: &Joined, seen: &mut Seen) {
+        seen.kept("lists", &self.lists, 0);
+        seen.same("lengths", &self.lengths, &guarded(&file.lengths));
+    }
+}
+
+fn guarded(lengths: &[u64]) -> Vec<u64> {
+    [&[GUARD], lengths, &[GUARD]].concat()
+}
+
 pub fn writing(
     file: &Joined,
     (block_size, start, count): (u64, u64, u64),
@@ -22,22 +48,19 @@ pub fn writing(
     archive: FilePlan,
 ) -> Seen {
     let want = file_plan_bytes(&file.file(), block_size, start, count);
-    let lists = Lent::holding(&file.lists, shift);
-    let lengths = [&[GUARD], &file.lengths[..], &[GUARD]].concat();
-    let lent = &lengths[1..=file.lengths.len()];
+    let lent = LentLists::of(file, shift);
     let length = want.as_ref().map_or(REFUSED_ROOM, Vec::len);
     let mut out = Lent::room(room.bytes(length), shift / 16);
     let mut plain_out = out.part().to_vec();
     let Joined { first_index, file_len, .. } = *file;
-    let (input, buffer) = (lists.part(), out.part_mut());
-    let got = archive(input, lent, first_index, file_len, block_size, start, count, buffer);
+    let (lists, lengths, buffer) = (lent.lists.part(), lent.lengths(), out.part_mut());
+    let got = archive(lists, lengths, first_index, file_len, block_size, start, count, buffer);
     let (refusal, answer) = across(written(want, &mut plain_out));
     let mut seen = Seen { refusal, faults: Vec::new() };
     seen.same("answer", &got, &answer);
     seen.same_bytes("buffer", out.part(), &plain_out);
     seen.kept("buffer", &out, got.count as usize);
-    seen.kept("lists", &lists, 0);
-    seen.same("lengths", &lengths, &[&[GUARD], &file.lengths[..], &[GUARD]].concat());
+    lent.kept(file, &mut seen);
     seen
 }
 
