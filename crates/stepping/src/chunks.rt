@@ -51,7 +51,18 @@ pub(crate) fn piece_in(
     let part = parts::part(p, end, k);
     let from = begins(lists, lengths, k as usize);
     let to = from + lengths[k as usize] as usize;
-    pieces::piece_at(
+    let piece = pieces::scanned_at(
+        &lists[from..to],
+        first + k,
+        place,
+        part.from,
+        part.end,
+        block,
+    );
+    if 0 < piece.len {
+        return piece;
+    }
+    pieces::resolved_at(
         &lists[from..to],
         first + k,
         place,

@@ -1,5 +1,4 @@
 // Where the piece ends that starts at a position.
-use crate::rooms;
 use blocks::bits_of;
 use plans::reach;
 use resolve::tops;
@@ -15,13 +14,13 @@ ghost use Rattle.slices.specs.Record.{records};
 ghost use Rattle.scanning.specs.Scan.{Scans};
 ghost use Rattle.plans.specs.Location.{locationAt, nextLocation};
 
-// Where the piece ends that starts at position p, by what a scan found there. Only a piece that joins what several records give needs the whole list
-// resolved.
+// Where the piece ends that starts at position p, by what a scan found there; p itself where it joins what several records give, so that the whole
+// list is needed.
 pub(crate) fn end_of(list: &[u8], s: Scanned, p: u32, end: u32, block: u32) -> u32
     requires { ⌜ Accepts (now list) × (blockAllowed block ≡ true) ⌝ }
     requires { ⌜ (p < end) × (end ≤ chunk) ⌝ }
     requires { ⌜ Scans (now list) p end s ⌝ }
-    ensures { λ e. ⌜ Leads nextLocation (locationAt block (records (now (list .entry)))) p end (locationAt block (records (now (list .entry))) p) e ⌝ }
+    ensures { λ e. ⌜ (p ≤ e) × (p < e → Leads nextLocation (locationAt block (records (now (list .entry)))) p end (locationAt block (records (now (list .entry))) p) e) ⌝ }
 {
     let bits = bits_of(block);
     let stop = s.end;
@@ -34,7 +33,7 @@ pub(crate) fn end_of(list: &[u8], s: Scanned, p: u32, end: u32, block: u32) -> u
     }
     let id = tops::id_on(list, s.top);
     if reach::joins(list, id, s.top, p, s.next, e, block) {
-        return rooms::end_resolved(list, p, end, block, bits);
+        return p;
     }
     e
 }

@@ -3,15 +3,20 @@ use plans::reach;
 use resolve::segments;
 use slices::RECORD;
 ghost use Prim.Native.Nat.{_<_, _≤_};
-ghost use Rattle.runs.specs.Inner.{Leads};
 ghost use Rattle.slices.specs.Accepts.{Accepts};
 ghost use Rattle.slices.specs.Limits.{chunk};
-ghost use Rattle.slices.specs.Record.{records, count};
+ghost use Rattle.slices.specs.Record.{count};
 ghost use Rattle.plans.specs.Inner.{Shifts};
-ghost use Rattle.plans.specs.Location.{locationAt, nextLocation};
 ghost use Rattle.files.specs.Inner.{Resolvable};
+ghost use Rattle.stepping.specs.Inner.{EndsAt};
 
-// Resolves the list, and finds where the piece ends that starts at position p.
+// Where a piece ends, and the record on top of its first position, counted from 1; 0 says that there is none.
+pub struct Ended {
+    pub end: u32,
+    pub top: u16,
+}
+
+// Resolves the list, and finds the piece that starts at position p.
 fn end_in(
     list: &[u8],
     p: u32,
@@ -24,22 +29,25 @@ fn end_in(
     ends: &mut [u32],
     order: &mut [u16],
     spare: &mut [u16],
-) -> u32
+) -> Ended
     requires { ⌜ Resolvable (now marks) (now tops) (now pos) (now ends) (now order) (now spare) (now list) ⌝ }
     requires { ⌜ (p < end) × (end ≤ chunk) × Shifts block bits ⌝ }
-    ensures { λ e. ⌜ Leads nextLocation (locationAt block (records (now (list .entry)))) p end (locationAt block (records (now (list .entry))) p) e ⌝ }
+    ensures { λ r. ⌜ EndsAt block (now (list .entry)) p end (r .top) (r .end) ⌝ }
 {
     let m = resolve::resolve(list, marks, tops, pos, ends, order, spare);
     let k = segments::find(marks, m, p);
     let run = reach::reach(list, marks, tops, m, k, p, end, block, bits);
-    run.end
+    Ended {
+        end: run.end,
+        top: tops[k],
+    }
 }
 
 // For at most 256 records.
-fn in_small_room(list: &[u8], p: u32, end: u32, block: u32, bits: u32) -> u32
+fn in_small_room(list: &[u8], p: u32, end: u32, block: u32, bits: u32) -> Ended
     requires { ⌜ Accepts (now list) × (count (now list) ≤ 256) ⌝ }
     requires { ⌜ (p < end) × (end ≤ chunk) × Shifts block bits ⌝ }
-    ensures { λ e. ⌜ Leads nextLocation (locationAt block (records (now (list .entry)))) p end (locationAt block (records (now (list .entry))) p) e ⌝ }
+    ensures { λ r. ⌜ EndsAt block (now (list .entry)) p end (r .top) (r .end) ⌝ }
 {
     let mut marks = [0u32; 514];
     let mut tops = [0u16; 513];
@@ -63,10 +71,10 @@ fn in_small_room(list: &[u8], p: u32, end: u32, block: u32, bits: u32) -> u32
 }
 
 // For all lists that are accepted.
-fn in_large_room(list: &[u8], p: u32, end: u32, block: u32, bits: u32) -> u32
+fn in_large_room(list: &[u8], p: u32, end: u32, block: u32, bits: u32) -> Ended
     requires { ⌜ Accepts (now list) ⌝ }
     requires { ⌜ (p < end) × (end ≤ chunk) × Shifts block bits ⌝ }
-    ensures { λ e. ⌜ Leads nextLocation (locationAt block (records (now (list .entry)))) p end (locationAt block (records (now (list .entry))) p) e ⌝ }
+    ensures { λ r. ⌜ EndsAt block (now (list .entry)) p end (r .top) (r .end) ⌝ }
 {
     let mut marks = [0u32; 4098];
     let mut tops = [0u16; 4097];
@@ -90,10 +98,10 @@ fn in_large_room(list: &[u8], p: u32, end: u32, block: u32, bits: u32) -> u32
 }
 
 // In the smaller room that does.
-pub(crate) fn end_resolved(list: &[u8], p: u32, end: u32, block: u32, bits: u32) -> u32
+pub(crate) fn end_resolved(list: &[u8], p: u32, end: u32, block: u32, bits: u32) -> Ended
     requires { ⌜ Accepts (now list) ⌝ }
     requires { ⌜ (p < end) × (end ≤ chunk) × Shifts block bits ⌝ }
-    ensures { λ e. ⌜ Leads nextLocation (locationAt block (records (now (list .entry)))) p end (locationAt block (records (now (list .entry))) p) e ⌝ }
+    ensures { λ r. ⌜ EndsAt block (now (list .entry)) p end (r .top) (r .end) ⌝ }
 {
     if list.len() <= 256 * RECORD {
         return in_small_room(list, p, end, block, bits);

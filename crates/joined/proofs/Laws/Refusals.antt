@@ -8,7 +8,7 @@ use mathlib.Core.List.{List, [], _∷_, _++_}
 use lib.ListN.{length}
 use Rattle.codec.specs.All.{All}
 use Rattle.codec.proofs.Laws.All.{all-left, all-right}
-use Rattle.outcomes.specs.Outcome.{OutcomeOf, refused, done, RowOf, Row, Outcome, firstOf, NoneHolds}
+use Rattle.outcomes.specs.Outcome.{OutcomeOf, refused, done, Row, Outcome, firstOf, NoneHolds}
 use Rattle.outcomes.specs.Answers.{answerOf}
 use Rattle.outcomes.proofs.Laws.Outcome.{firstOf-append, none-passes, done-none, done-is, stops}
 use Rattle.slices.specs.Accepts.{Accepts}

@@ -12,7 +12,6 @@ use Rattle.outcomes.specs.Answers.{answerOf}
 use Rattle.blocks.specs.Blocks.{blockAllowed}
 use Rattle.plans.specs.Calls.{chunkRows}
 use Rattle.plans.specs.Inner.{Cut}
-use Rattle.plans.specs.Location.{locationAt}
 use Rattle.plans.specs.Plan.{cutTo, locationFrom}
 use Rattle.plans.proofs.Laws.Calls.{chunk-accepted}
 use Rattle.stepping.specs.Step.{Step, given, finished, nextStep, chunkSite}

@@ -1,5 +1,5 @@
 -- Pieces one at a time: all that is to be believed of them. Assumes nothing.
-use Prim.Native.Nat.{ℕ, _+_, _≤_}
+use Prim.Native.Nat.{ℕ, _≤_}
 use native.Mathlib.Nat.{zero-add}
 use mathlib.Core.Path.{_≡_, refl, sym, ap, _∙_, subst}
 use mathlib.Core.Logic.{_↔_}
@@ -9,7 +9,7 @@ use Rattle.slices.specs.Record.{records}
 use Rattle.outcomes.specs.Outcome.{OutcomeOf, refused, done, RowOf, firstOf, NoneHolds, Given}
 use Rattle.outcomes.proofs.Laws.Outcome.{none-passes, refused-exactly, stops}
 use Rattle.runs.specs.Runs.{Run, runs}
-use Rattle.plans.specs.Calls.{chunkRows, planBytes, readRows, readOutcome}
+use Rattle.plans.specs.Calls.{chunkRows, planBytes, readOutcome}
 use Rattle.plans.specs.Location.{Site, nextSite}
 use Rattle.plans.specs.Piece.{encodePiece, encodeRun, encodePieces, inChunk, chunkBytes}
 use Rattle.plans.specs.Plan.{cutTo, locationFrom, pieces, readPlan}
@@ -19,14 +19,12 @@ use Rattle.files.specs.File.{siteFrom, fileEnd, filePlan}
 use Rattle.files.specs.File as across
 use Rattle.files.proofs.Laws.Calls.{file-fits}
 use Rattle.files.proofs.Laws.Runs.{runs-in-chunk}
-use Rattle.stepping.specs.Step.{Step, pieceIn, nextStep, chunkSite}
+use Rattle.stepping.specs.Step.{pieceIn, nextStep, chunkSite}
 use Rattle.stepping.specs.Calls.{nextOutcome, planPieces, nextFileOutcome, filePieces}
 use Rattle.stepping.specs.Claims.{PieceByPiece, OneAtATime}
 use Rattle.stepping.proofs.Laws.Steps.{piece-by-piece}
 use Rattle.outcomes.specs.declared.Refusal.{Refusal}
-use Rattle.slices.specs.declared.Record.{Record}
 use Rattle.joined.specs.declared.ListRefusal.{ListRefusal}
-use Rattle.plans.specs.declared.Piece.{Piece}
 
 -- ---- the pieces of a plan are its bytes
 

@@ -2,7 +2,7 @@
 use Prim.Native.Nat.{ℕ, _+_, _-_, _<_, _≤_}
 use native.Mathlib.Omega.{arith}
 use native.Mathlib.Nat.{le-refl}
-use mathlib.Core.Path.{_≡_, refl, ap, _∙_}
+use mathlib.Core.Path.{_≡_, ap, _∙_}
 use mathlib.Core.Bool.{true}
 use mathlib.Core.List.{List}
 use Rattle.blocks.specs.Blocks.{blockAllowed}
@@ -14,10 +14,10 @@ use Rattle.plans.specs.Location.{locationAt, nextLocation}
 use Rattle.plans.specs.Piece.{pieceOf}
 use Rattle.plans.proofs.Laws.Tops.{top-within}
 use Rattle.stepping.specs.Inner.{PieceFrom}
+use Rattle.stepping.proofs.Laws.Pieces.{len-of}
 use Rattle.slices.specs.declared.Record.{Record}
 use Rattle.scanning.specs.declared.Scanned.{Scanned}
 use Rattle.plans.specs.declared.Location.{Location}
-use Rattle.plans.specs.declared.Location.the-variants.{Hole, In}
 use Rattle.plans.specs.declared.Piece.{Piece}
 
 pub block-some : (B : ℕ) → blockAllowed B ≡ true → 0 < B
@@ -40,16 +40,17 @@ module _ (bs : List ℕ) (p end : ℕ) (s : Scanned) (h : Scans bs p end s) wher
 
 -- ---- the piece
 
-piece-len : (index place n : ℕ) (a : Location) → pieceOf index place n a .len ≡ n
-unfolding pieceOf
-piece-len index place n Hole = refl
-piece-len index place n (In i b l t) = refl
+-- one that has bytes goes on behind its first position
+pub piece-some : (index place p e : ℕ) (first : Location) {piece : Piece} → piece ≡ pieceOf index place (e - p) first → 0 < piece .len → p < e
+piece-some index place p e first {piece} h l =
+    let n : piece .len ≡ e - p = ap (λ (x : Piece). x .len) h ∙ len-of index place (e - p) first in
+    omega arith
 
 -- by its end, and by where its first byte lies
 pub piece-from : (B : ℕ) (rs : List Record) (index place p end e : ℕ) {first : Location} {piece : Piece} → first ≡ locationAt B rs p
     → Leads nextLocation (locationAt B rs) p end (locationAt B rs p) e → piece ≡ pieceOf index place (e - p) first → PieceFrom B rs index place p end piece
 piece-from B rs index place p end e {first} {piece} f l h =
-    let n : piece .len ≡ e - p = ap (λ (x : Piece). x .len) h ∙ piece-len index place (e - p) first in
+    let n : piece .len ≡ e - p = ap (λ (x : Piece). x .len) h ∙ len-of index place (e - p) first in
     let z : p + piece .len ≡ e = omega (arith, l .some) in
     let same : pieceOf index place (e - p) first ≡ pieceOf index place (piece .len) (locationAt B rs p) = rw (n, f) in
     record { is = h ∙ same; leads = rw z l }

@@ -1,7 +1,7 @@
 -- The piece of a run, and what is left of it behind its first bytes. Assumes nothing.
-use Prim.Native.Nat.{ℕ, suc, _+_, _-_, _≤_, _<_}
+use Prim.Native.Nat.{ℕ, suc, _+_, _-_, _<_}
 use native.Mathlib.Omega.{arith}
-use mathlib.Core.Path.{_≡_, refl, sym, ap, _∙_}
+use mathlib.Core.Path.{_≡_, refl, sym, ap}
 use mathlib.Core.Bool.{true}
 use lib.Dec.{eqb}
 use borrow.Author.Tests.{eqb-true}
@@ -23,7 +23,7 @@ unfolding pieceOf
 place-of index from n Hole = refl
 place-of index from n (In i b l t) = refl
 
-len-of : (index from n : ℕ) (a : Location) → pieceOf index from n a .len ≡ n
+pub len-of : (index from n : ℕ) (a : Location) → pieceOf index from n a .len ≡ n
 unfolding pieceOf
 len-of index from n Hole = refl
 len-of index from n (In i b l t) = refl

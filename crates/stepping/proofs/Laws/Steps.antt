@@ -1,6 +1,6 @@
 -- Piece by piece, over any function that says where byte i of a read lies: the steps from place 0 on are the whole plan, a place inside a piece gives
 -- the rest of it, and a read that is finished stays so. Assumes nothing.
-use Prim.Native.Nat.{ℕ, suc, _+_, _-_, _≤_, _<_}
+use Prim.Native.Nat.{ℕ, _+_, _-_, _≤_, _<_}
 use native.Mathlib.Omega.{arith}
 use native.Mathlib.Nat.{zero-add}
 use mathlib.Core.Path.{_≡_, refl, sym, ap, _∙_, subst}
@@ -9,7 +9,7 @@ use mathlib.Core.List.{List, [], _∷_, _++_, map}
 use Rattle.codec.specs.All.{All}
 use Rattle.codec.proofs.Laws.All.{all-right}
 use Rattle.outcomes.specs.Outcome.{OutcomeOf, refused, done}
-use Rattle.runs.specs.Runs.{Run, runs, IsRun, Stops, Valid}
+use Rattle.runs.specs.Runs.{Run, runs, Stops, Valid}
 use Rattle.runs.proofs.Laws.Runs.{runs-valid, valid-le, valid-unique}
 use Rattle.plans.specs.Location.{Site, nextSite}
 use Rattle.stepping.specs.Step.{Step, given, finished, pieceIn, firstStep, nextStep, restOf}

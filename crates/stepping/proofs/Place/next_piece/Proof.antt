@@ -1,5 +1,4 @@
 -- `stepping::Place::next_piece` meets its contract: each answer is that of its case. Assumes nothing.
-use Prim.Native.Nat.{_≤_}
 use native.Mathlib.Omega.{arith}
 use mathlib.Core.Path.{_≡_, refl, sym, _∙_}
 use mathlib.Core.Bool.{true}

@@ -44,25 +44,25 @@ shared-slice-read-to c = within (c .before .before .before .before .before)
 add-to : tie.Need-add-to
 add-to c = search needs
 
-sub-piece-at : tie.Need-sub-piece-at
-sub-piece-at c = search needs
+sub-scanned-at : tie.Need-sub-scanned-at
+sub-scanned-at c = search needs
 
-part-piece-at-start : tie.Need-part-piece-at-start
-part-piece-at-start c = search needs
+part-scanned-at-start : tie.Need-part-scanned-at-start
+part-scanned-at-start c = search needs
 
-part-piece-at-end : tie.Need-part-piece-at-end
-part-piece-at-end c = search needs
+part-scanned-at-end : tie.Need-part-scanned-at-end
+part-scanned-at-end c = search needs
 
-add-piece-at : tie.Need-add-piece-at
+add-scanned-at : tie.Need-add-scanned-at
 unfolding chunk
-add-piece-at c =
+add-scanned-at c =
     let start = c .before .before .before .before .before .before in
     let w = within start in
     omega (arith, start .pre .1 .0 .1)
 
-piece-at-requires : tie.Need-piece-at-requires
+scanned-at-requires : tie.Need-scanned-at-requires
 unfolding chunk
-piece-at-requires c κs =
+scanned-at-requires c κs =
     let begun = c .before .before in
     let e = begun .before .part .ensures in
     let start = begun .before .before .before .before in
@@ -72,10 +72,43 @@ piece-at-requires c κs =
 returns : tie.Need-returns
 unfolding chunk
 returns c =
-    let begun = c .before .before .before in
+    let begun = c .before .before .before .before .before in
     let e = begun .before .part .ensures in
     let a = begun .before .before .before .before .args in
-    piece-there _ _ (e .0) (e .1) _ _ _ (parts (now (a .lengths)) (now (a .lists))) (list-here _ _ _ _ _ (begun .begins .ensures) refl) (c .piece-at .ensures)
+    piece-there _ _ (e .0) (e .1) _ _ _ (parts (now (a .lengths)) (now (a .lists))) (list-here _ _ _ _ _ (begun .begins .ensures) refl) (c .before .before .scanned-at .ensures (c .if1 .taken))
+
+sub-resolved-at : tie.Need-sub-resolved-at
+sub-resolved-at c = search needs
+
+part-resolved-at-start : tie.Need-part-resolved-at-start
+part-resolved-at-start c = search needs
+
+part-resolved-at-end : tie.Need-part-resolved-at-end
+part-resolved-at-end c = search needs
+
+add-resolved-at : tie.Need-add-resolved-at
+unfolding chunk
+add-resolved-at c =
+    let start = c .before .before .before .before .before .before .before .before .before .before in
+    let w = within start in
+    omega (arith, start .pre .1 .0 .1)
+
+resolved-at-requires : tie.Need-resolved-at-requires
+unfolding chunk
+resolved-at-requires c κs =
+    let begun = c .before .before .before .before .before .before in
+    let e = begun .before .part .ensures in
+    let start = begun .before .before .before .before in
+    let p = start .pre in
+    ((here-accepted _ _ _ _ _ (begun .begins .ensures) refl (within start) (p .0 .1), p .1 .0 .2), (part-some _ _ (e .0) (e .1) (p .1 .1 .0), part-short _ _ (e .0) (e .1)))
+
+returns-2 : tie.Need-returns-2
+unfolding chunk
+returns-2 c =
+    let begun = c .before .before .before .before .before .before .before in
+    let e = begun .before .part .ensures in
+    let a = begun .before .before .before .before .args in
+    piece-there _ _ (e .0) (e .1) _ _ _ (parts (now (a .lengths)) (now (a .lists))) (list-here _ _ _ _ _ (begun .begins .ensures) refl) (c .resolved-at .ensures)
 
 pub piece-in-spec : {M : Type 1} → statement M
 piece-in-spec =
@@ -88,9 +121,15 @@ piece-in-spec =
     mul-to
     shared-slice-read-to
     add-to
-    sub-piece-at
-    part-piece-at-start
-    part-piece-at-end
-    add-piece-at
-    piece-at-requires
-    returns)
+    sub-scanned-at
+    part-scanned-at-start
+    part-scanned-at-end
+    add-scanned-at
+    scanned-at-requires
+    returns
+    sub-resolved-at
+    part-resolved-at-start
+    part-resolved-at-end
+    add-resolved-at
+    resolved-at-requires
+    returns-2)

