@@ -66,7 +66,7 @@ fn follows(a: Location, d: u32, i: u64, b: u32, l: u32, t: u32) -> bool
 }
 
 // Whether b goes on with a run whose first location, d positions before, is a.
-pub(crate) fn location_goes_on(a: Location, d: u32, b: Location) -> bool
+pub fn location_goes_on(a: Location, d: u32, b: Location) -> bool
     requires { ⌜ 0 < d ⌝ }
     ensures { λ r. ⌜ r ≡ nextLocation (onward a (d - 1)) b ⌝ }
 {

@@ -35,7 +35,7 @@ pub fn same_top_to(list: &[u8], top: u16, p: u32, e: u32, block: u32, bits: u32)
 }
 
 // The same in segment k, which holds p, and at most `end`.
-fn same_block_to(
+pub fn same_block_to(
     list: &[u8],
     marks: &[u32],
     tops: &[u16],
@@ -57,7 +57,7 @@ fn same_block_to(
 }
 
 // Whether the piece from p on, with the record a on top of p, goes on at e, with b on top of it; id is a's. Most often the ids tell.
-pub fn joins(list: &[u8], id: u64, a: u16, p: u32, b: u16, e: u32, block: u32) -> bool
+fn joins(list: &[u8], id: u64, a: u16, p: u32, b: u16, e: u32, block: u32) -> bool
     requires { ⌜ All Passes (records (now list)) ⌝ }
     requires { ⌜ (p < e) × (0 < block) × (id ≡ idOn (now list) a) ⌝ }
     requires { ⌜ OnTop (now list) a p (p + 1) ⌝ }
@@ -76,7 +76,7 @@ pub fn joins(list: &[u8], id: u64, a: u16, p: u32, b: u16, e: u32, block: u32) -
 }
 
 // Where the maximal run of locations, of the positions from p up to `end`, that starts at p ends, and in which segment; segment k holds p.
-pub fn reach(
+pub(crate) fn reach(
     list: &[u8],
     marks: &[u32],
     tops: &[u16],

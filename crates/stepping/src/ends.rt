@@ -1,4 +1,5 @@
 // Where the piece ends that starts at a position.
+use crate::joins;
 use blocks::bits_of;
 use plans::reach;
 use resolve::tops;
@@ -32,7 +33,7 @@ pub(crate) fn end_of(list: &[u8], s: Scanned, p: u32, end: u32, block: u32) -> u
         return e;
     }
     let id = tops::id_on(list, s.top);
-    if reach::joins(list, id, s.top, p, s.next, e, block) {
+    if joins::goes_on(list, id, s.top, p, s.next, e, block) {
         return p;
     }
     e

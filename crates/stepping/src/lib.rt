@@ -1,6 +1,7 @@
 // The pieces of a plan one at a time.
 mod chunks;
 mod ends;
+mod joins;
 mod pieces;
 mod rooms;
 

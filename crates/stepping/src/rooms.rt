@@ -1,5 +1,5 @@
 // Room to resolve a list in, for a piece that joins what several records give.
-use plans::reach;
+use crate::joins;
 use resolve::segments;
 use slices::RECORD;
 ghost use Prim.Native.Nat.{_<_, _≤_};
@@ -36,15 +36,42 @@ fn end_in(
 {
     let m = resolve::resolve(list, marks, tops, pos, ends, order, spare);
     let k = segments::find(marks, m, p);
-    let run = reach::reach(list, marks, tops, m, k, p, end, block, bits);
+    let e = joins::run_to(list, marks, tops, m, k, p, end, block, bits);
     Ended {
-        end: run.end,
+        end: e,
         top: tops[k],
     }
 }
 
+// For at most 32 records.
+fn small(list: &[u8], p: u32, end: u32, block: u32, bits: u32) -> Ended
+    requires { ⌜ Accepts (now list) × (count (now list) ≤ 32) ⌝ }
+    requires { ⌜ (p < end) × (end ≤ chunk) × Shifts block bits ⌝ }
+    ensures { λ r. ⌜ EndsAt block (now (list .entry)) p end (r .top) (r .end) ⌝ }
+{
+    let mut marks = [0u32; 66];
+    let mut tops = [0u16; 65];
+    let mut pos = [0u64; 32];
+    let mut ends = [0u32; 32];
+    let mut order = [0u16; 32];
+    let mut spare = [0u16; 32];
+    end_in(
+        list,
+        p,
+        end,
+        block,
+        bits,
+        &mut marks,
+        &mut tops,
+        &mut pos,
+        &mut ends,
+        &mut order,
+        &mut spare,
+    )
+}
+
 // For at most 256 records.
-fn in_small_room(list: &[u8], p: u32, end: u32, block: u32, bits: u32) -> Ended
+fn medium(list: &[u8], p: u32, end: u32, block: u32, bits: u32) -> Ended
     requires { ⌜ Accepts (now list) × (count (now list) ≤ 256) ⌝ }
     requires { ⌜ (p < end) × (end ≤ chunk) × Shifts block bits ⌝ }
     ensures { λ r. ⌜ EndsAt block (now (list .entry)) p end (r .top) (r .end) ⌝ }
@@ -71,7 +98,7 @@ fn in_small_room(list: &[u8], p: u32, end: u32, block: u32, bits: u32) -> Ended
 }
 
 // For all lists that are accepted.
-fn in_large_room(list: &[u8], p: u32, end: u32, block: u32, bits: u32) -> Ended
+fn large(list: &[u8], p: u32, end: u32, block: u32, bits: u32) -> Ended
     requires { ⌜ Accepts (now list) ⌝ }
     requires { ⌜ (p < end) × (end ≤ chunk) × Shifts block bits ⌝ }
     ensures { λ r. ⌜ EndsAt block (now (list .entry)) p end (r .top) (r .end) ⌝ }
@@ -97,14 +124,18 @@ fn in_large_room(list: &[u8], p: u32, end: u32, block: u32, bits: u32) -> Ended
     )
 }
 
-// In the smaller room that does.
+// In the smallest room that does.
 pub(crate) fn end_resolved(list: &[u8], p: u32, end: u32, block: u32, bits: u32) -> Ended
     requires { ⌜ Accepts (now list) ⌝ }
     requires { ⌜ (p < end) × (end ≤ chunk) × Shifts block bits ⌝ }
     ensures { λ r. ⌜ EndsAt block (now (list .entry)) p end (r .top) (r .end) ⌝ }
 {
-    if list.len() <= 256 * RECORD {
-        return in_small_room(list, p, end, block, bits);
+    let n = list.len() / RECORD;
+    if n <= 32 {
+        return small(list, p, end, block, bits);
     }
-    in_large_room(list, p, end, block, bits)
+    if n <= 256 {
+        return medium(list, p, end, block, bits);
+    }
+    large(list, p, end, block, bits)
 }

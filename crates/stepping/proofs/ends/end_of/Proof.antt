@@ -27,25 +27,25 @@ shifts : (c : tie.After-bits-of) → Shifts (c .before .before .args .block) (c 
 shifts c = record { power = c .bits-of .ensures .0; few = c .bits-of .ensures .1 }
 
 -- up to e the locations go on
-goes-on : (c : tie.After-same-top-to) → let a = c .before .before .before .args in Unbroken nextLocation (locationAt (a .block) (records (now (a .list)))) (a .p) (a .end) (c .same-top-to .result)
-goes-on c = scan-unbroken _ _ _ _ (c .before .before .before .pre .1 .1) _ _ _ (c .same-top-to .ensures .0)
+unbroken : (c : tie.After-same-top-to) → let a = c .before .before .before .args in Unbroken nextLocation (locationAt (a .block) (records (now (a .list)))) (a .p) (a .end) (c .same-top-to .result)
+unbroken c = scan-unbroken _ _ _ _ (c .before .before .before .pre .1 .1) _ _ _ (c .same-top-to .ensures .0)
 
 returns : tie.Need-returns
 returns c =
     let stop = c .if1 .taken in
-    let u = goes-on (c .before) in
+    let u = unbroken (c .before) in
     (omega (arith, u .some), (λ m. leads-stops nextLocation onward onward-zero next-location-is _ _ _ _ u (λ q h l. c .before .same-top-to .ensures .1 stop q h stop)))
 
 returns-2 : tie.Need-returns-2
 returns-2 c =
-    let u = goes-on (c .before .before) in
+    let u = unbroken (c .before .before) in
     (omega (arith, u .some), (λ m. leads-end nextLocation onward onward-zero next-location-is _ _ _ _ u _ refl (c .if2 .taken)))
 
 id-on-requires : tie.Need-id-on-requires
 id-on-requires c κs = λ i e. c .before .before .before .before .before .pre .1 .1 .here .covering i e .0
 
-joins-requires : tie.Need-joins-requires
-joins-requires c κs =
+goes-on-requires : tie.Need-goes-on-requires
+goes-on-requires c κs =
     let told = c .before .before .before in
     let p = told .before .before .before .pre in
     let u = told .same-top-to .ensures .0 in
@@ -58,8 +58,8 @@ returns-3 c = (le-refl _, (λ m. absurd (omega (arith, m))))
 returns-4 : tie.Need-returns-4
 returns-4 c =
     let joined = c .before in
-    let u = goes-on (joined .before .before .before .before) in
-    (omega (arith, u .some), (λ m. leads-parts nextLocation onward onward-zero next-location-is _ _ _ _ u _ _ _ refl refl (joined .joins .ensures) (c .if3 .left)))
+    let u = unbroken (joined .before .before .before .before) in
+    (omega (arith, u .some), (λ m. leads-parts nextLocation onward onward-zero next-location-is _ _ _ _ u _ _ _ refl refl (joined .goes-on .ensures) (c .if3 .left)))
 
 pub end-of-spec : {M : Type 1} → statement M
 end-of-spec =
@@ -70,6 +70,6 @@ end-of-spec =
     returns
     returns-2
     id-on-requires
-    joins-requires
+    goes-on-requires
     returns-3
     returns-4)

@@ -15,8 +15,8 @@ resolve-requires c κs =
 find-requires : tie.Need-find-requires
 find-requires c κs = search needs
 
-reach-requires : tie.Need-reach-requires
-reach-requires c κs = search needs
+run-to-requires : tie.Need-run-to-requires
+run-to-requires c κs = search needs
 
 mul-t33 : tie.Need-mul-t33
 unfolding chunk
@@ -48,7 +48,7 @@ same-length-6 c = search needs
 returns : tie.Need-returns
 returns c =
     let find = c .before .before .before .before in
-    record { on-top = resolved-at _ _ _ _ _ (find .before .before .before .before .before .before .before .before .before .before .before .before .before .before .resolve .ensures .resolved) _ _ (find .find .ensures); leads = c .before .reach .ensures .0 }
+    record { on-top = resolved-at _ _ _ _ _ (find .before .before .before .before .before .before .before .before .before .before .before .before .before .before .resolve .ensures .resolved) _ _ (find .find .ensures); leads = c .before .run-to .ensures }
 
 pub end-in-spec : {M : Type 1} → statement M
 end-in-spec =
@@ -56,7 +56,7 @@ end-in-spec =
     (tie.spec
     resolve-requires
     find-requires
-    reach-requires
+    run-to-requires
     mul-t33
     slice-read-t35
     same-length

@@ -1,8 +1,8 @@
--- `stepping::rooms::in_large_room` meets its contract: its arrays are room for every list that is accepted. Assumes nothing.
+-- `stepping::rooms::medium` meets its contract: its arrays are room for 256 records. Assumes nothing.
 use Rattle.views.proofs.Laws.Rooms.{fits}
 use borrow.Author.Needs.{needs}
-use Rattle.stepping.proofs.rooms.in_large_room.Statement.{statement}
-use Rattle.stepping.proofs.rooms.in_large_room.Tie as tie
+use Rattle.stepping.proofs.rooms.medium.Statement.{statement}
+use Rattle.stepping.proofs.rooms.medium.Tie as tie
 
 slice-aggregate-end-in : tie.Need-slice-aggregate-end-in
 slice-aggregate-end-in c = search needs
@@ -25,15 +25,15 @@ slice-aggregate-end-in-6 c = search needs
 end-in-requires : tie.Need-end-in-requires
 end-in-requires c κs =
     let p = c .before .before .before .before .before .before .before .pre in
-    let n = p .0 .few in
-    let f = fits _ 2048 n in
-    ((p .0, record { marks-fit = f .0; tops-fit = f .1; pos-fit = n; ends-fit = n; order-fit = n; spare-fit = n }), p .1)
+    let n = p .0 .1 in
+    let f = fits _ 256 n in
+    ((p .0 .0, record { marks-fit = f .0; tops-fit = f .1; pos-fit = n; ends-fit = n; order-fit = n; spare-fit = n }), p .1)
 
 returns : tie.Need-returns
 returns c = search needs
 
-pub in-large-room-spec : {M : Type 1} → statement M
-in-large-room-spec =
+pub medium-spec : {M : Type 1} → statement M
+medium-spec =
     tie.close
     (tie.spec
     slice-aggregate-end-in
