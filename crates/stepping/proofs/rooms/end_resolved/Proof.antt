@@ -13,21 +13,12 @@ small-requires c κs =
 returns : tie.Need-returns
 returns c = search needs
 
-medium-requires : tie.Need-medium-requires
-unfolding count
-medium-requires c κs =
-    let p = c .before .before .before .pre in
-    ((p .0, c .if2 .taken), p .1)
+large-requires : tie.Need-large-requires
+large-requires c κs = search needs
 
 returns-2 : tie.Need-returns-2
 returns-2 c = search needs
 
-large-requires : tie.Need-large-requires
-large-requires c κs = search needs
-
-returns-3 : tie.Need-returns-3
-returns-3 c = search needs
-
 pub end-resolved-spec : {M : Type 1} → statement M
 end-resolved-spec =
-    tie.close (tie.spec small-requires returns medium-requires returns-2 large-requires returns-3)
+    tie.close (tie.spec small-requires returns large-requires returns-2)

@@ -1,4 +1,4 @@
--- `stepping::rooms::small` meets its contract: its arrays are room for 32 records. Assumes nothing.
+-- `stepping::rooms::small` meets its contract: its arrays are room for 256 records. Assumes nothing.
 use Rattle.views.proofs.Laws.Rooms.{fits}
 use borrow.Author.Needs.{needs}
 use Rattle.stepping.proofs.rooms.small.Statement.{statement}
@@ -26,7 +26,7 @@ end-in-requires : tie.Need-end-in-requires
 end-in-requires c κs =
     let p = c .before .before .before .before .before .before .before .pre in
     let n = p .0 .1 in
-    let f = fits _ 32 n in
+    let f = fits _ 256 n in
     ((p .0 .0, record { marks-fit = f .0; tops-fit = f .1; pos-fit = n; ends-fit = n; order-fit = n; spare-fit = n }), p .1)
 
 returns : tie.Need-returns
