@@ -11,11 +11,13 @@ use joined::ListRefusal;
 use outcomes::Refusal;
 use outcomes::refusals;
 use plans::Piece;
+use plans::Span;
 use slices::CHUNK;
 use slices::Checked;
 use slices::MAX_INDEX;
 use slices::check;
 ghost use mathlib.Core.Path.{_≡_};
+ghost use Prim.Native.Nat.{_+_, _-_, _^_, _<_, _≤_};
 ghost use Rattle.outcomes.specs.Outcome.{refusal};
 ghost use Rattle.joined.specs.Refusals.{ofList};
 ghost use Rattle.stepping.specs.Calls.{nextOutcome, nextAnswer, nextFileOutcome, nextFileAnswer};
@@ -51,6 +53,24 @@ fn refused(number: u8) -> FileNext
     })
 }
 
+// How many bytes a read has.
+fn bytes_of(read: Span) -> u64
+    requires { ⌜ read .from ≤ read .end ⌝ }
+    ensures { λ r. ⌜ r ≡ read .end - read .from ⌝ }
+{
+    (read.end - read.from) as u64
+}
+
+// The place behind a piece.
+fn behind(at: u64, piece: Piece) -> Place
+    requires { ⌜ at < 2 ^ 32 ⌝ }
+    ensures { λ r. ⌜ r .at ≡ at + piece .len ⌝ }
+{
+    Place {
+        at: at + piece.len as u64,
+    }
+}
+
 impl Place {
     // The piece that comes next in a read of `count` bytes from `start`, for a chunk of the given index and length, with objects of the given block
     // size.
@@ -77,7 +97,7 @@ impl Place {
                 Checked::Refused(refusal) => Next::Refused(refusal),
                 Checked::Accepted(_) => {
                     let read = plans::cut(chunk_len, start, count);
-                    if (read.end - read.from) as u64 <= at {
+                    if bytes_of(read) <= at {
                         return Next::Finished;
                     }
                     let piece = pieces::piece_at(
@@ -90,9 +110,7 @@ impl Place {
                     );
                     Next::Given {
                         piece,
-                        next: Place {
-                            at: at + piece.len as u64,
-                        },
+                        next: behind(at, piece),
                     }
                 }
             }
@@ -124,7 +142,7 @@ impl Place {
                 CheckedLists::Refused(refusal) => FileNext::Refused(refusal),
                 CheckedLists::Accepted(n) => {
                     let read = plans::cut(files::file_end(first_index, file_len, n), start, count);
-                    if (read.end - read.from) as u64 <= at {
+                    if bytes_of(read) <= at {
                         return FileNext::Finished;
                     }
                     let piece = chunks::piece_in(
@@ -138,9 +156,7 @@ impl Place {
                     );
                     FileNext::Given {
                         piece,
-                        next: Place {
-                            at: at + piece.len as u64,
-                        },
+                        next: behind(at, piece),
                     }
                 }
             }

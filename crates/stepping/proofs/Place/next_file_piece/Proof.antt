@@ -72,18 +72,15 @@ cut-requires c κs =
     let r = right (c .before .before .before .before .before .before .before) in
     omega (arith, c .file-end .ensures, r .few, accepted-count _ _ _ _ (told (c .before .before)))
 
-sub-if3 : tie.Need-sub-if3
-sub-if3 c = search needs
-
-cast-if3 : tie.Need-cast-if3
-cast-if3 c = search needs
+bytes-of-requires : tie.Need-bytes-of-requires
+bytes-of-requires c κs = c .cut .ensures .order
 
 returns-2 : tie.Need-returns-2
 returns-2 c =
     let cut = c .before .before in
     let n = cut .before .before .before in
     let tested = n .before .before .before in
-    next-file-finished _ _ _ _ _ _ _ _ (not-wrong (tested .before .before)) (allowed tested) _ (told n) _ _ (rw (cut .before .file-end .ensures) at (cut .cut .ensures)) (c .if3 .taken)
+    next-file-finished _ _ _ _ _ _ _ _ (not-wrong (tested .before .before)) (allowed tested) _ (told n) _ _ (rw (cut .before .file-end .ensures) at (cut .cut .ensures)) (omega (arith, c .if3 .taken, c .before .bytes-of .ensures))
 
 cast-piece-in : tie.Need-cast-piece-in
 cast-piece-in c =
@@ -112,13 +109,12 @@ piece-in-requires c κs =
     let u = cut .cut .ensures in
     let m = accepted-count _ _ _ _ (told n) in
     let within : cut .cut .result .end ≤ length (now (tested .before .before .before .before .before .before .args .lengths)) * chunk = rw (← m) (omega (arith, u .within, cut .before .file-end .ensures)) in
-    ((r .adds, lists-accepted _ _ _ (said-accepted _ _ (told n))), ((r .few, r .indexes, allowed tested), (omega (arith, c .before .if3 .left, u .order), within)))
+    ((r .adds, lists-accepted _ _ _ (said-accepted _ _ (told n))), ((r .few, r .indexes, allowed tested), (omega (arith, c .before .if3 .left, c .before .before .bytes-of .ensures, u .order), within)))
 
-cast-t19 : tie.Need-cast-t19
-cast-t19 c = search needs
-
-add-t26 : tie.Need-add-t26
-add-t26 c = search needs
+behind-requires : tie.Need-behind-requires
+behind-requires c κs =
+    let left = c .before .before in
+    omega (arith, left .if3 .left, left .before .bytes-of .ensures)
 
 refused-requires-2 : tie.Need-refused-requires-2
 refused-requires-2 c κs = search needs
@@ -135,7 +131,7 @@ returns-4 c =
     let cut = left .before .before in
     let n = cut .before .before .before in
     let tested = n .before .before .before in
-    next-file-given _ _ _ _ _ _ _ _ (not-wrong (tested .before .before)) (allowed tested) _ (told n) _ _ (rw (cut .before .file-end .ensures) at (cut .cut .ensures)) (left .if3 .left) _ (c .before .piece-in .ensures) _ refl
+    next-file-given _ _ _ _ _ _ _ _ (not-wrong (tested .before .before)) (allowed tested) _ (told n) _ _ (rw (cut .before .file-end .ensures) at (cut .cut .ensures)) (omega (arith, left .if3 .left, left .before .bytes-of .ensures)) _ (c .before .piece-in .ensures) _ (c .behind .ensures)
 
 returns-5 : tie.Need-returns-5
 returns-5 c =
@@ -156,8 +152,7 @@ next-file-piece-spec =
     enum-known-n
     file-end-requires
     cut-requires
-    sub-if3
-    cast-if3
+    bytes-of-requires
     returns-2
     cast-piece-in
     cast-piece-in-2
@@ -165,8 +160,7 @@ next-file-piece-spec =
     add-piece-in
     cast-piece-in-4
     piece-in-requires
-    cast-t19
-    add-t26
+    behind-requires
     refused-requires-2
     returns-3
     returns-4

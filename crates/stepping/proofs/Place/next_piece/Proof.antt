@@ -58,11 +58,8 @@ cut-requires : tie.Need-cut-requires
 unfolding chunk
 cut-requires c κs = search needs
 
-sub-if4 : tie.Need-sub-if4
-sub-if4 c = search needs
-
-cast-if4 : tie.Need-cast-if4
-cast-if4 c = search needs
+bytes-of-requires : tie.Need-bytes-of-requires
+bytes-of-requires c κs = c .cut .ensures .order
 
 returns-3 : tie.Need-returns-3
 unfolding chunk
@@ -71,7 +68,7 @@ returns-3 c =
     let told = cut .before in
     let tested = told .before .before .before in
     let past = tested .before .before in
-    next-finished _ _ _ _ _ _ _ (past .before .if1 .left) (past .if2 .left) _ (tested .before .block-allowed .ensures) (tested .if3 .taken) _ (accepted told) _ _ (cut .cut .ensures) (c .if4 .taken)
+    next-finished _ _ _ _ _ _ _ (past .before .if1 .left) (past .if2 .left) _ (tested .before .block-allowed .ensures) (tested .if3 .taken) _ (accepted told) _ _ (cut .cut .ensures) (omega (arith, c .if4 .taken, c .before .bytes-of .ensures))
 
 cast-piece-at : tie.Need-cast-piece-at
 cast-piece-at c = search needs
@@ -94,13 +91,12 @@ piece-at-requires c κs =
     let cut = c .before .before .before in
     let told = cut .before in
     let u = cut .cut .ensures in
-    ((check-accepts _ _ (accepted told), allowed (told .before .before .before)), (omega (arith, c .before .if4 .left, u .order), omega (arith, u .within)))
+    ((check-accepts _ _ (accepted told), allowed (told .before .before .before)), (omega (arith, c .before .if4 .left, c .before .before .bytes-of .ensures, u .order), omega (arith, u .within)))
 
-cast-t21 : tie.Need-cast-t21
-cast-t21 c = search needs
-
-add-t27 : tie.Need-add-t27
-add-t27 c = search needs
+behind-requires : tie.Need-behind-requires
+behind-requires c κs =
+    let left = c .before .before in
+    omega (arith, left .if4 .left, left .before .bytes-of .ensures)
 
 refusal-requires-3 : tie.Need-refusal-requires-3
 refusal-requires-3 c κs = search needs
@@ -122,7 +118,7 @@ returns-5 c =
     let told = cut .before in
     let tested = told .before .before .before in
     let past = tested .before .before in
-    next-given _ _ _ _ _ _ _ (past .before .if1 .left) (past .if2 .left) _ (tested .before .block-allowed .ensures) (tested .if3 .taken) _ (accepted told) _ _ (cut .cut .ensures) (left .if4 .left) _ (c .before .piece-at .ensures) _ refl
+    next-given _ _ _ _ _ _ _ (past .before .if1 .left) (past .if2 .left) _ (tested .before .block-allowed .ensures) (tested .if3 .taken) _ (accepted told) _ _ (cut .cut .ensures) (omega (arith, left .if4 .left, left .before .bytes-of .ensures)) _ (c .before .piece-at .ensures) _ (c .behind .ensures)
 
 returns-6 : tie.Need-returns-6
 unfolding chunk
@@ -145,8 +141,7 @@ next-piece-spec =
     enum-known-refusal
     enum-told
     cut-requires
-    sub-if4
-    cast-if4
+    bytes-of-requires
     returns-3
     cast-piece-at
     cast-piece-at-2
@@ -154,8 +149,7 @@ next-piece-spec =
     add-piece-at
     cast-piece-at-4
     piece-at-requires
-    cast-t21
-    add-t27
+    behind-requires
     refusal-requires-3
     returns-4
     returns-5
