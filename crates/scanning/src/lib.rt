@@ -1,4 +1,4 @@
-// What lies on top of one position, how far, and what lies there, found by one scan from the last record down.
+// What lies on top of one position, and how far, found by one scan from the last record down; what lies there, by a second one where it is asked for.
 use slices::RECORD;
 use slices::records;
 ghost use mathlib.Core.Path.{_≡_};
@@ -9,14 +9,15 @@ ghost use Rattle.slices.specs.Cover.{covers};
 ghost use Rattle.slices.specs.Limits.{maxRecords};
 ghost use Rattle.slices.specs.Passes.{Passes};
 ghost use Rattle.slices.specs.Record.{recordAt, records, count};
-ghost use Rattle.scanning.specs.Scan.{Scans, LastBefore, Nearest};
+ghost use Rattle.resolve.specs.Resolved.{OnTop};
+ghost use Rattle.scanning.specs.Scan.{Scans, Clear, LastBefore, Nearest};
 
-// The record `top` lies on top of a position, and of those behind it up to `end`; `next` lies on top of that one. Both are counted from 1; 0 says
-// that there is none.
+// The record `top`, counted from 1, lies on top of a position, and of those behind it up to `end`; 0 says that there is none. On top of position
+// `end` lies one of the first `before` records, or none.
 pub struct Scanned {
     pub top: u16,
     pub end: u32,
-    pub next: u16,
+    pub before: u16,
 }
 
 // The nearest position behind another that a record covers, and the record, counted from 1.
@@ -86,16 +87,17 @@ fn found(list: &[u8], i: usize, p: u32, end: u32, near: Near) -> Scanned
     let stop = records::read_pos(list, i) + records::read_len(list, i);
     let top = (i + 1) as u16;
     if stop < near.at {
+        let before = i as u16;
         return Scanned {
             top,
             end: stop,
-            next: last_before(list, i, stop),
+            before,
         };
     }
     Scanned {
         top,
         end: near.at,
-        next: near.top,
+        before: near.top,
     }
 }
 
@@ -117,6 +119,16 @@ pub fn scan(list: &[u8], p: u32, end: u32) -> Scanned
     Scanned {
         top: 0,
         end: near.at,
-        next: near.top,
+        before: near.top,
     }
+}
+
+// The record on top of position e, counted from 1, by those before `before`: the others don't cover it. 0 says that there is none.
+pub fn top_below(list: &[u8], before: u16, e: u32) -> u16
+    requires { ⌜ All Passes (records (now list)) ⌝ }
+    requires { ⌜ (before ≤ count (now list)) × (count (now list) ≤ maxRecords) ⌝ }
+    requires { ⌜ Clear (now list) before (count (now list)) e ⌝ }
+    ensures { λ r. ⌜ OnTop (now (list .entry)) r e (e + 1) ⌝ }
+{
+    last_before(list, before as usize, e)
 }

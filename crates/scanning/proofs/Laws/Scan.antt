@@ -8,7 +8,7 @@ use Rattle.slices.specs.Cover.{covers}
 use Rattle.slices.specs.Record.{recordAt, count}
 use Rattle.slices.proofs.Laws.Cover.{covers-in, covers-before, covers-range}
 use Rattle.scanning.specs.Scan.{Scans, Clear, LastBefore, Nearest}
-use Rattle.scanning.proofs.Laws.Last.{outside, clear-none, clear-later, clear-more, last-none, last-hit, last-all, on-top-of, on-top-at}
+use Rattle.scanning.proofs.Laws.Last.{outside, clear-none, clear-later, clear-more, last-none, last-hit, on-top-of}
 
 -- ---- the nearest position behind p that a record seen covers
 
@@ -57,17 +57,17 @@ module _ (bs : List ℕ) (i p end at top : ℕ) (e : covers (recordAt bs i) p �
 -- ---- what the scan says
 
 module _ (bs : List ℕ) (i p end at near : ℕ) (h : Nearest bs i p end at near) where
-  scans-near : (top : ℕ) → ((q : ℕ) → p ≤ q → q < at → LastBefore bs (count bs) q top) → Scans bs p end (record { top = top; end = at; next = near })
+  scans-near : (top : ℕ) → ((q : ℕ) → p ≤ q → q < at → LastBefore bs (count bs) q top) → Scans bs p end (record { top = top; end = at; before = near })
   scans-near top f =
       record {
         some = h .some;
         inside = h .inside;
         here = on-top-of bs top p at (h .some) f;
-        there = λ l. on-top-at bs near at (h .there l);
+        there = λ l. (h .there l .within, h .there l .behind);
       }
 
 -- no record covers p
-pub scans-none : (bs : List ℕ) (p end at near : ℕ) → Nearest bs 0 p end at near → Scans bs p end (record { top = 0; end = at; next = near })
+pub scans-none : (bs : List ℕ) (p end at near : ℕ) → Nearest bs 0 p end at near → Scans bs p end (record { top = 0; end = at; before = near })
 scans-none bs p end at near h = scans-near bs 0 p end at near h 0 (λ q a b. last-none bs (count bs) q (h .clear q a b))
 
 -- record i is the last that covers p
@@ -79,19 +79,17 @@ module _ (bs : List ℕ) (i p end at near : ℕ) (l : i < count bs) (e : covers 
       last-hit bs (count bs) q i l (covers-in (recordAt bs i) q (omega (arith, r .0)) c) (h .clear q a b)
 
   -- a later one begins before it ends, or there
-  pub found-near : at ≤ recordAt bs i .pos + recordAt bs i .len → Scans bs p end (record { top = i + 1; end = at; next = near })
+  pub found-near : at ≤ recordAt bs i .pos + recordAt bs i .len → Scans bs p end (record { top = i + 1; end = at; before = near })
   found-near m = scans-near bs (i + 1) p end at near h (i + 1) (λ q a b. last q a b (omega arith))
 
-  -- it ends first, and the last of those before it lies on top there
-  pub found-below : (stop next : ℕ) → stop ≡ recordAt bs i .pos + recordAt bs i .len → stop < at → LastBefore bs i stop next
-      → Scans bs p end (record { top = i + 1; end = stop; next = next })
-  found-below stop next f m t =
+  -- it ends first, and neither it nor one behind it covers the position there
+  pub found-below : (stop : ℕ) → stop ≡ recordAt bs i .pos + recordAt bs i .len → stop < at → Scans bs p end (record { top = i + 1; end = stop; before = i })
+  found-below stop f m =
       let r = covers-range (recordAt bs i) p e in
       let c = outside (recordAt bs i) stop (λ x y. omega arith) in
-      let d = clear-more bs (count bs) stop i c (h .clear stop (omega (arith, r .1)) m) in
       record {
         some = omega (arith, r .1);
         inside = omega (arith, h .inside);
         here = on-top-of bs (i + 1) p stop (omega (arith, r .1)) (λ q a b. last q a (omega arith) (omega arith));
-        there = λ z. on-top-at bs next stop (last-all bs (count bs) stop i next t (omega arith) d);
+        there = λ z. (omega arith, clear-more bs (count bs) stop i c (h .clear stop (omega (arith, r .1)) m));
       }

@@ -29,13 +29,13 @@ add-top c = search needs
 cast-top : tie.Need-cast-top
 cast-top c = search needs
 
-last-before-requires : tie.Need-last-before-requires
-last-before-requires c κs = search needs
+cast-before : tie.Need-cast-before
+cast-before c = search needs
 
 returns : tie.Need-returns
 returns c =
-    let pre = c .before .before .before .before .before .before .pre in
-    found-below _ _ _ _ _ _ (pre .1 .0 .0) (pre .1 .1 .0) (pre .1 .1 .1) _ _ (omega arith) (omega arith) (c .last-before .ensures)
+    let pre = c .before .before .before .before .before .pre in
+    found-below _ _ _ _ _ _ (pre .1 .0 .0) (pre .1 .1 .0) (pre .1 .1 .1) _ (omega arith) (omega arith)
 
 returns-2 : tie.Need-returns-2
 returns-2 c =
@@ -51,6 +51,6 @@ found-spec =
     add-stop
     add-top
     cast-top
-    last-before-requires
+    cast-before
     returns
     returns-2)
