@@ -4,13 +4,17 @@ use slices::records;
 ghost use mathlib.Core.Path.{_≡_};
 ghost use mathlib.Core.Bool.{true, false};
 ghost use Prim.Native.Nat.{_+_, _<_, _≤_};
+ghost use lib.Dec.{eqb};
 ghost use Rattle.codec.specs.All.{All};
 ghost use Rattle.slices.specs.Cover.{covers};
-ghost use Rattle.slices.specs.Limits.{maxRecords};
+ghost use Rattle.slices.specs.Limits.{chunk, maxRecords};
 ghost use Rattle.slices.specs.Passes.{Passes};
 ghost use Rattle.slices.specs.Record.{recordAt, records, count};
 ghost use Rattle.resolve.specs.Resolved.{OnTop};
 ghost use Rattle.scanning.specs.Scan.{Scans, Clear, LastBefore, Nearest};
+
+// Half of the numbers of 32 bits.
+const HALF: u32 = 0x80000000;
 
 // The record `top`, counted from 1, lies on top of a position, and of those behind it up to `end`; 0 says that there is none. On top of position
 // `end` lies one of the first `before` records, or none.
@@ -53,8 +57,18 @@ fn last_before(list: &[u8], i: usize, p: u32) -> u16
     0
 }
 
+// Whether a record of so many positions has none: one less wraps to more than any record has. For a test against 0 the compiler would read the number
+// byte by byte.
+fn is_empty(len: u32) -> bool
+    requires { ⌜ len ≤ chunk ⌝ }
+    ensures { λ r. ⌜ r ≡ eqb len 0 ⌝ }
+{
+    HALF <= std::num::wrapping_sub_u32(len, 1)
+}
+
 // The nearest that the records from i on cover, by that of the records behind i. Record i does not cover p.
 fn nearer(list: &[u8], i: usize, p: u32, end: u32, near: Near) -> Near
+    requires { ⌜ All Passes (records (now list)) ⌝ }
     requires { ⌜ (i < count (now list)) × (count (now list) ≤ maxRecords) ⌝ }
     requires { ⌜ covers (recordAt (now list) i) p ≡ false ⌝ }
     requires { ⌜ Nearest (now list) (i + 1) p end (near .at) (near .top) ⌝ }
@@ -67,7 +81,7 @@ fn nearer(list: &[u8], i: usize, p: u32, end: u32, near: Near) -> Near
     if near.at <= pos {
         return near;
     }
-    if records::read_len(list, i) == 0 {
+    if is_empty(records::read_len(list, i)) {
         return near;
     }
     Near {

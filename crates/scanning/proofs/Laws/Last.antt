@@ -5,9 +5,10 @@ use native.Mathlib.Decide.{ℕ-discrete, decLt}
 use mathlib.Core.Path.{_≡_, refl, sym}
 use mathlib.Core.Bool.{Bool, true, false}
 use mathlib.Core.List.{List}
-use lib.Dec.{ltb}
-use borrow.Author.Tests.{ltb-true, ltb-false}
+use lib.Dec.{eqb, ltb, leb}
+use borrow.Author.Tests.{ltb-true, ltb-false, eqb-true, eqb-false, le-leb, lt-leb}
 use Rattle.slices.specs.Cover.{covers}
+use Rattle.slices.specs.Limits.{chunk}
 use Rattle.slices.specs.Passes.{Passes}
 use Rattle.slices.specs.Record.{recordAt, records, count}
 use Rattle.slices.specs.declared.Record.{Record}
@@ -23,6 +24,19 @@ test-is r h p d a b e = go (ltb d (r .len)) refl
     go : (t : Bool) → ltb d (r .len) ≡ t → t ≡ covers r p
     go true f = sym (distance-in r h p d a b e (ltb-true _ _ f) .0)
     go false f = sym (distance-out r h p d a b e (ltb-false _ _ f))
+
+-- the same of emptiness: one less than a record's length, modulo 2 ^ 32, is 2 ^ 31 or more where there is nothing to take it from, and only there
+pub empty-is : (len d : ℕ) → len ≤ chunk → d < 2 ^ 32 → (d + 1) % 2 ^ 32 ≡ len → leb 2147483648 d ≡ eqb len 0
+unfolding chunk
+empty-is len d a b e = go (eqb len 0) refl
+  where
+    go : (t : Bool) → eqb len 0 ≡ t → leb 2147483648 d ≡ t
+    go true f =
+        let g = eqb-true len 0 f in
+        le-leb 2147483648 d (omega arith)
+    go false f =
+        let g = eqb-false len 0 f in
+        lt-leb 2147483648 d (omega (arith, g))
 
 -- a record covers no position outside its range
 pub outside : (r : Record) (q : ℕ) → (r .pos ≤ q → q < r .pos + r .len → ⊥) → covers r q ≡ false

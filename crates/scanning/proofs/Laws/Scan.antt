@@ -4,6 +4,8 @@ use native.Mathlib.Omega.{arith}
 use mathlib.Core.Path.{_≡_, sym, _∙_}
 use mathlib.Core.Bool.{true, false, false≢true}
 use mathlib.Core.List.{List}
+use lib.Dec.{eqb}
+use borrow.Author.Tests.{eqb-true, eqb-false}
 use Rattle.slices.specs.Cover.{covers}
 use Rattle.slices.specs.Record.{recordAt, count}
 use Rattle.slices.proofs.Laws.Cover.{covers-in, covers-before, covers-range}
@@ -41,17 +43,21 @@ module _ (bs : List ℕ) (i p end at top : ℕ) (e : covers (recordAt bs i) p �
   pub nearest-behind : at ≤ recordAt bs i .pos → Nearest bs i p end at top
   nearest-behind l = skip (λ q a b. outside _ q (λ x y. omega arith))
 
-  pub nearest-empty : recordAt bs i .len ≡ 0 → Nearest bs i p end at top
-  nearest-empty l = skip (λ q a b. outside _ q (λ x y. omega arith))
+  pub nearest-empty : (len : ℕ) → len ≡ recordAt bs i .len → eqb len 0 ≡ true → Nearest bs i p end at top
+  nearest-empty len f l =
+      let g = eqb-true len 0 l in
+      skip (λ q a b. outside _ q (λ x y. omega arith))
 
   -- record i begins behind p and before the nearest position
-  pub nearest-between : (pos : ℕ) → pos ≡ recordAt bs i .pos → p < pos → pos < at → 0 < recordAt bs i .len → i < count bs → Nearest bs i p end pos (i + 1)
-  nearest-between pos f l m n c =
+  pub nearest-between : (pos len : ℕ) → pos ≡ recordAt bs i .pos → len ≡ recordAt bs i .len → p < pos → pos < at → eqb len 0 ≡ false → i < count bs
+      → Nearest bs i p end pos (i + 1)
+  nearest-between pos len f g l m n c =
+      let some = eqb-false len 0 n in
       record {
         some = l;
         inside = omega (arith, h .inside);
         clear = λ q a b. clear-more bs (count bs) q i (covers-before (recordAt bs i) q (omega arith)) (h .clear q a (omega arith));
-        there = λ z. last-hit bs (count bs) pos i c (covers-in (recordAt bs i) pos (omega arith) (omega arith)) (h .clear pos (omega arith) m);
+        there = λ z. last-hit bs (count bs) pos i c (covers-in (recordAt bs i) pos (omega arith) (omega (arith, some))) (h .clear pos (omega arith) m);
       }
 
 -- ---- what the scan says

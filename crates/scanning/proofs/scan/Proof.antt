@@ -38,7 +38,7 @@ nearer-requires : tie.Need-nearer-requires Inv-loop μ-loop
 nearer-requires c κs =
     let at = c .before .before .before in
     let pre = at .before .before .pre in
-    ((omega arith, pre .1 .0), (sym (c .before .covers .ensures) ∙ c .if1 .left, nearest-later _ _ _ _ _ _ _ (omega arith) (at .loop .inv .1)))
+    (pre .0, ((omega arith, pre .1 .0), (sym (c .before .covers .ensures) ∙ c .if1 .left, nearest-later _ _ _ _ _ _ _ (omega arith) (at .loop .inv .1))))
 
 loop-less : tie.Need-loop-less Inv-loop μ-loop
 loop-less c = omega arith
