@@ -48,26 +48,14 @@ pub(crate) fn piece_in(
     ensures { λ r. ⌜ PieceFrom block (records (getD (parts (now (lengths .entry)) (now (lists .entry))) (p / chunk) [])) (first + p / chunk) place (p % chunk) (partEnd end (p / chunk)) r ⌝ }
 {
     let k = p / CHUNK;
+    let index = first + k;
     let part = parts::part(p, end, k);
+    let stop = part.end;
     let from = begins(lists, lengths, k as usize);
     let to = from + lengths[k as usize] as usize;
-    let piece = pieces::scanned_at(
-        &lists[from..to],
-        first + k,
-        place,
-        part.from,
-        part.end,
-        block,
-    );
+    let piece = pieces::scanned_at(&lists[from..to], index, place, part.from, stop, block);
     if 0 < piece.len {
         return piece;
     }
-    pieces::resolved_at(
-        &lists[from..to],
-        first + k,
-        place,
-        part.from,
-        part.end,
-        block,
-    )
+    pieces::resolved_at(&lists[from..to], index, place, part.from, stop, block)
 }

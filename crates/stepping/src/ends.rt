@@ -33,7 +33,8 @@ pub(crate) fn end_of(list: &[u8], s: Scanned, p: u32, end: u32, block: u32) -> u
         return e;
     }
     let id = tops::id_on(list, s.top);
-    if joins::goes_on(list, id, s.top, p, s.next, e, block) {
+    let next = scanning::top_below(list, s.before, e);
+    if joins::goes_on(list, id, s.top, p, next, e, block) {
         return p;
     }
     e

@@ -8,7 +8,8 @@ use mathlib.Core.List.{List}
 use Rattle.blocks.specs.Blocks.{blockAllowed}
 use Rattle.blocks.proofs.Laws.Blocks.{block-range}
 use Rattle.resolve.specs.Resolved.{OnTop}
-use Rattle.scanning.specs.Scan.{Scans}
+use Rattle.slices.specs.Record.{count}
+use Rattle.scanning.specs.Scan.{Scans, Clear}
 use Rattle.runs.specs.Inner.{Unbroken, Leads}
 use Rattle.plans.specs.Location.{locationAt, nextLocation}
 use Rattle.plans.specs.Piece.{pieceOf}
@@ -29,8 +30,8 @@ module _ (bs : List ℕ) (p end : ℕ) (s : Scanned) (h : Scans bs p end s) wher
   pub top-here : OnTop bs (s .top) p (p + 1)
   top-here = top-within bs (s .top) p (s .end) (h .here) p (p + 1) (le-refl p) (omega (arith, h .some))
 
-  pub top-there : (e : ℕ) → e ≤ s .end → s .end ≤ e → e < end → OnTop bs (s .next) e (e + 1)
-  top-there e l m k =
+  pub below-there : (e : ℕ) → e ≤ s .end → s .end ≤ e → e < end → (s .before ≤ count bs) × Clear bs (s .before) (count bs) e
+  below-there e l m k =
       let z : s .end ≡ e = omega arith in
       rw z at (h .there (omega arith))
 

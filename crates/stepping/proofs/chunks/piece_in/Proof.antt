@@ -15,6 +15,13 @@ use Rattle.stepping.proofs.chunks.piece_in.Tie as tie
 within : (c : tie.Start) → let a = c .args in a .p / chunk < length (now (a .lengths))
 within c = chunk-within _ _ _ (c .pre .1 .1 .0) (c .pre .1 .1 .1)
 
+add-index : tie.Need-add-index
+unfolding chunk
+add-index c =
+    let start = c .before .before in
+    let w = within start in
+    omega (arith, start .pre .1 .0 .1)
+
 part-requires : tie.Need-part-requires
 unfolding chunk
 part-requires c κs =
@@ -53,13 +60,6 @@ part-scanned-at-start c = search needs
 part-scanned-at-end : tie.Need-part-scanned-at-end
 part-scanned-at-end c = search needs
 
-add-scanned-at : tie.Need-add-scanned-at
-unfolding chunk
-add-scanned-at c =
-    let start = c .before .before .before .before .before .before in
-    let w = within start in
-    omega (arith, start .pre .1 .0 .1)
-
 scanned-at-requires : tie.Need-scanned-at-requires
 unfolding chunk
 scanned-at-requires c κs =
@@ -86,13 +86,6 @@ part-resolved-at-start c = search needs
 part-resolved-at-end : tie.Need-part-resolved-at-end
 part-resolved-at-end c = search needs
 
-add-resolved-at : tie.Need-add-resolved-at
-unfolding chunk
-add-resolved-at c =
-    let start = c .before .before .before .before .before .before .before .before .before .before in
-    let w = within start in
-    omega (arith, start .pre .1 .0 .1)
-
 resolved-at-requires : tie.Need-resolved-at-requires
 unfolding chunk
 resolved-at-requires c κs =
@@ -114,6 +107,7 @@ pub piece-in-spec : {M : Type 1} → statement M
 piece-in-spec =
     tie.close
     (tie.spec
+    add-index
     part-requires
     cast-begins
     begins-requires
@@ -124,12 +118,10 @@ piece-in-spec =
     sub-scanned-at
     part-scanned-at-start
     part-scanned-at-end
-    add-scanned-at
     scanned-at-requires
     returns
     sub-resolved-at
     part-resolved-at-start
     part-resolved-at-end
-    add-resolved-at
     resolved-at-requires
     returns-2)

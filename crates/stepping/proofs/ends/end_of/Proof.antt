@@ -11,7 +11,7 @@ use Rattle.plans.specs.Inner.{Shifts}
 use Rattle.plans.specs.Location.{locationAt, nextLocation, onward}
 use Rattle.plans.proofs.Laws.Locations.{onward-zero, next-location-is}
 use Rattle.plans.proofs.Laws.Shifts.{shifts-some}
-use Rattle.stepping.proofs.Laws.Ends.{top-here, top-there, scan-unbroken}
+use Rattle.stepping.proofs.Laws.Ends.{top-here, below-there, scan-unbroken}
 use borrow.Author.Needs.{needs}
 use Rattle.stepping.proofs.ends.end_of.Statement.{statement}
 use Rattle.stepping.proofs.ends.end_of.Tie as tie
@@ -44,13 +44,18 @@ returns-2 c =
 id-on-requires : tie.Need-id-on-requires
 id-on-requires c κs = λ i e. c .before .before .before .before .before .pre .1 .1 .here .covering i e .0
 
-goes-on-requires : tie.Need-goes-on-requires
-goes-on-requires c κs =
+top-below-requires : tie.Need-top-below-requires
+top-below-requires c κs =
     let told = c .before .before .before in
     let p = told .before .before .before .pre in
-    let u = told .same-top-to .ensures .0 in
-    let s = p .1 .1 in
-    (p .0 .0 .pass, ((u .some, shifts-some _ _ (shifts (told .before)), c .id-on .ensures), (top-here _ _ _ _ s, top-there _ _ _ _ s _ (u .inside) (c .before .before .if1 .left) (c .before .if2 .left))))
+    let t = below-there _ _ _ _ (p .1 .1) _ (told .same-top-to .ensures .0 .inside) (c .before .before .if1 .left) (c .before .if2 .left) in
+    (p .0 .0 .pass, ((t .0, p .0 .0 .few), t .1))
+
+goes-on-requires : tie.Need-goes-on-requires
+goes-on-requires c κs =
+    let told = c .before .before .before .before in
+    let p = told .before .before .before .pre in
+    (p .0 .0 .pass, ((told .same-top-to .ensures .0 .some, shifts-some _ _ (shifts (told .before)), c .before .id-on .ensures), (top-here _ _ _ _ (p .1 .1), c .top-below .ensures)))
 
 returns-3 : tie.Need-returns-3
 returns-3 c = (le-refl _, (λ m. absurd (omega (arith, m))))
@@ -58,7 +63,7 @@ returns-3 c = (le-refl _, (λ m. absurd (omega (arith, m))))
 returns-4 : tie.Need-returns-4
 returns-4 c =
     let joined = c .before in
-    let u = unbroken (joined .before .before .before .before) in
+    let u = unbroken (joined .before .before .before .before .before) in
     (omega (arith, u .some), (λ m. leads-parts nextLocation onward onward-zero next-location-is _ _ _ _ u _ _ _ refl refl (joined .goes-on .ensures) (c .if3 .left)))
 
 pub end-of-spec : {M : Type 1} → statement M
@@ -70,6 +75,7 @@ end-of-spec =
     returns
     returns-2
     id-on-requires
+    top-below-requires
     goes-on-requires
     returns-3
     returns-4)
