@@ -1,5 +1,7 @@
 //! The archive's plan across the chunks of a file, and the plans of the same chunks one by one.
 
+pub mod pieces;
+
 use ezumokarin::sys::ezk_file_plan;
 
 use crate::library::read_plan;
@@ -47,11 +49,16 @@ impl File {
     #[inline]
     pub fn plans(&self, block_size: u32, out: &mut [u8]) -> Option<usize> {
         let mut at = 0;
-        let lists = self.lists.chunks_exact(self.lengths[0] as usize);
-        for (index, list) in (FIRST..).zip(lists) {
+        for (index, list) in (FIRST..).zip(self.singles()) {
             at += read_plan(list, index, block_size, &mut out[at..])?;
         }
         Some(at)
+    }
+
+    /// The lists, one by one.
+    #[inline]
+    fn singles(&self) -> impl Iterator<Item = &[u8]> {
+        self.lists.chunks_exact(self.lengths[0] as usize)
     }
 }
 

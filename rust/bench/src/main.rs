@@ -11,6 +11,7 @@ mod library;
 mod measure;
 mod orders;
 mod pairs;
+mod pieces;
 mod record;
 mod report;
 mod shapes;
@@ -18,6 +19,7 @@ mod shapes;
 mod tests;
 mod timed;
 mod yard;
+mod zeros;
 
 use std::path::Path;
 use std::process::exit;

@@ -3,8 +3,8 @@
 use crate::report::spread::{select, Spread};
 use crate::report::{number, table as table_of, thousands};
 use crate::timed::{
-    added, comparison, files, Row, Who, ADDED, BEGINS, COMPACT, FILES, PLAN, SIZES, SMALL_PLAN,
-    TIDY, VIEW,
+    added, comparison, files, Row, Who, ADDED, BEGINS, COMPACT, FILES, JOINED, NEXT, PLAN, SIZES,
+    SMALL_PLAN, TIDY, VIEW,
 };
 
 struct Limit {
@@ -58,6 +58,8 @@ fn limits(rows: &[Row]) -> Vec<Limit> {
     let singles = (Who::Singles, "16 read plans");
     limits.extend(FILES.map(|call| over(rows, call, &[files::RECORDS], singles, 1.1)));
     limits.extend(FILES.map(|call| file_fits(rows, call)));
+    limits.push(over(rows, NEXT, &[200, 2_000], (Who::Best, "best Rust"), 1.3));
+    limits.push(over(rows, JOINED, &SIZES, (Who::Plan, "read plan"), 1.3));
     let checks = (Who::Checks, "two checks");
     limits.extend(ADDED.map(|call| over(rows, call, &added::LENGTHS, checks, 1.2)));
     limits.push(over(rows, BEGINS, &comparison::LENGTHS, (Who::Best, "`starts_with`"), 4.0));

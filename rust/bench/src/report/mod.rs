@@ -6,6 +6,7 @@ mod history;
 mod limits;
 mod others;
 mod picture;
+mod pieces;
 mod spread;
 
 use crate::timed::Row;
@@ -19,6 +20,10 @@ pub fn files(rows: &[Row]) -> Vec<(&'static str, String)> {
         ("calls.md", calls::others(rows)),
         ("fits.md", calls::fits(rows)),
         ("files.md", files::plans(rows)),
+        ("pieces.md", pieces::ordinary(rows)),
+        ("joined.md", pieces::joined(rows)),
+        ("one-by-one.md", pieces::one_by_one(rows)),
+        ("file-pieces.md", pieces::of_files(rows)),
         ("find.md", others::find(rows)),
         ("check.md", others::check(rows)),
         ("added.md", history::added(rows)),

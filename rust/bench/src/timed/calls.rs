@@ -5,7 +5,9 @@ use crate::measure::{program, Program};
 use crate::record::RECORD;
 use crate::shapes::{Shape, SHAPES};
 use crate::timed::same::{buffers, same, Counts, Writer};
-use crate::timed::{how_many, Row, Who, COMPACT, PLAN, SHORT, SIZES, SMALL_PLAN, TIDY, VIEW};
+use crate::timed::{
+    how_many, Row, Who, BLOCK, COMPACT, PLAN, SHORT, SIZES, SMALL_PLAN, TIDY, VIEW,
+};
 use crate::yard::compact::{compact, Order};
 use crate::yard::plan::read_plan;
 use crate::yard::view::{tidy, view};
@@ -23,7 +25,6 @@ enum Call {
 
 /// The chunk's.
 const INDEX: u32 = 7;
-const BLOCK: u32 = 4_194_304;
 const SMALL_BLOCK: u32 = 65_536;
 const CALLS: [(Call, &str); 5] = [
     (Call::View, VIEW),

@@ -4,7 +4,11 @@ pub mod added;
 mod calls;
 mod check;
 pub mod comparison;
+pub mod file_next;
 pub mod files;
+mod joined;
+pub mod next;
+pub mod one_by_one;
 mod row;
 mod same;
 mod seek;
@@ -16,6 +20,9 @@ pub use row::{Row, Who};
 pub const SHORT: [usize; 3] = [1, 2, 4];
 pub const SIZES: [usize; 3] = [10, 200, 2_000];
 
+/// The usual block size.
+pub const BLOCK: u32 = 4_194_304;
+
 /// The names of the calls in the rows.
 pub const VIEW: &str = "view";
 pub const TIDY: &str = "tidy";
@@ -25,6 +32,12 @@ pub const COMPACT: &str = "compaction";
 /// `ezk_file_plan`, by block size.
 pub const FILES: [&str; 2] =
     ["plan of 16 chunks, blocks of 4 MiB", "plan of 16 chunks, blocks of 64 KiB"];
+/// `ezk_next_piece`, of one record or hole, of many, and over a whole read; and
+/// `ezk_next_file_piece`.
+pub const NEXT: &str = "next piece";
+pub const JOINED: &str = "next piece, joined";
+pub const ONE_BY_ONE: &str = "pieces one by one";
+pub const FILE_NEXT: &str = "next piece of 16 chunks";
 pub const FIND: &str = "find";
 pub const CHECK: &str = "check";
 /// `ezk_added`, by how the newer list came from the older one.
@@ -42,6 +55,10 @@ pub const KEYS: &str = "chunk keys";
 pub fn all() -> Result<Vec<Row>, String> {
     let mut rows = calls::rows()?;
     rows.extend(files::rows()?);
+    rows.extend(next::rows()?);
+    rows.extend(joined::rows()?);
+    rows.extend(one_by_one::rows()?);
+    rows.extend(file_next::rows()?);
     rows.extend(seek::rows()?);
     rows.extend(check::rows()?);
     rows.extend(added::rows()?);

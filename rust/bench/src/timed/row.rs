@@ -21,9 +21,11 @@ pub enum Who {
     Walk,
     /// The check of refusals 1 to 6 alone.
     Six,
-    /// The checks of an older and a newer list alone.
+    /// The checks of the same lists alone.
     Checks,
-    /// The read plans of single chunks, one after the other.
+    /// The read plan of the whole chunk.
+    Plan,
+    /// Calls on single chunks, one after the other, in the stead of one on a file.
     Singles,
 }
 

@@ -3,16 +3,19 @@
 //! `walk` is quadratic, `tree` cuts the records into one another. The rest is the best we can
 //! write: the records are sorted by position (`order`), a sweep over the chunk keeps the open ones
 //! in a set of bits (`open`, `sweep`), and views, plans and compaction are written on the way.
-//! `plain` is that sweep without its last refinements.
+//! `plain` is that sweep without its last refinements. The next piece of a read is found by a scan
+//! (`scan`, `next`).
 
 pub mod check;
 pub mod compact;
+pub mod next;
 mod open;
 mod order;
 pub mod plain;
 pub mod plan;
 mod room;
 mod runs;
+mod scan;
 pub mod seek;
 mod sizes;
 mod source;

@@ -84,6 +84,6 @@ pub fn raw_id(bytes: &RecordBytes) -> u64 {
 
 /// Slice offset less position.
 #[inline(always)]
-fn lies(bytes: &RecordBytes) -> u32 {
+pub fn lies(bytes: &RecordBytes) -> u32 {
     four(bytes, 16).wrapping_sub(four(bytes, 0))
 }
