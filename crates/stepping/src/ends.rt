@@ -1,9 +1,11 @@
 // Where the piece ends that starts at a position.
 use crate::joins;
+use crate::rooms;
 use blocks::bits_of;
 use plans::reach;
 use resolve::tops;
 use scanning::Scanned;
+use slices::RECORD;
 ghost use mathlib.Core.Path.{_≡_};
 ghost use mathlib.Core.Bool.{true};
 ghost use Prim.Native.Nat.{_<_, _≤_};
@@ -15,8 +17,8 @@ ghost use Rattle.slices.specs.Record.{records};
 ghost use Rattle.scanning.specs.Scan.{Scans};
 ghost use Rattle.plans.specs.Location.{locationAt, nextLocation};
 
-// Where the piece ends that starts at position p, by what a scan found there; p itself where it joins what several records give, so that the whole
-// list is needed.
+// Where the piece ends that starts at position p, by what a scan found there; p itself where it joins what several of many records
+// give, so that more room is needed.
 pub(crate) fn end_of(list: &[u8], s: Scanned, p: u32, end: u32, block: u32) -> u32
     requires { ⌜ Accepts (now list) × (blockAllowed block ≡ true) ⌝ }
     requires { ⌜ (p < end) × (end ≤ chunk) ⌝ }
@@ -35,6 +37,10 @@ pub(crate) fn end_of(list: &[u8], s: Scanned, p: u32, end: u32, block: u32) -> u
     let id = tops::id_on(list, s.top);
     let next = scanning::top_below(list, s.before, e);
     if joins::goes_on(list, id, s.top, p, next, e, block) {
+        if list.len() / RECORD <= 32 {
+            let found = rooms::few(list, p, end, block, bits);
+            return found.end;
+        }
         return p;
     }
     e

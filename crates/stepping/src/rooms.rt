@@ -43,6 +43,33 @@ fn end_in(
     }
 }
 
+// For at most 32 records: its arrays are small enough for the frame of the scan.
+pub(crate) fn few(list: &[u8], p: u32, end: u32, block: u32, bits: u32) -> Ended
+    requires { ⌜ Accepts (now list) × (count (now list) ≤ 32) ⌝ }
+    requires { ⌜ (p < end) × (end ≤ chunk) × Shifts block bits ⌝ }
+    ensures { λ r. ⌜ EndsAt block (now (list .entry)) p end (r .top) (r .end) ⌝ }
+{
+    let mut marks = [0u32; 66];
+    let mut tops = [0u16; 65];
+    let mut pos = [0u64; 32];
+    let mut ends = [0u32; 32];
+    let mut order = [0u16; 32];
+    let mut spare = [0u16; 32];
+    end_in(
+        list,
+        p,
+        end,
+        block,
+        bits,
+        &mut marks,
+        &mut tops,
+        &mut pos,
+        &mut ends,
+        &mut order,
+        &mut spare,
+    )
+}
+
 // For at most 256 records.
 fn small(list: &[u8], p: u32, end: u32, block: u32, bits: u32) -> Ended
     requires { ⌜ Accepts (now list) × (count (now list) ≤ 256) ⌝ }

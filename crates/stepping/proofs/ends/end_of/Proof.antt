@@ -4,7 +4,7 @@ use native.Mathlib.Omega.{arith}
 use native.Mathlib.Nat.{le-refl}
 use mathlib.Core.Path.{refl}
 use denote.Ref.{now}
-use Rattle.slices.specs.Record.{records}
+use Rattle.slices.specs.Record.{records, count}
 use Rattle.runs.specs.Inner.{Unbroken}
 use Rattle.runs.proofs.Laws.Walk.{leads-stops, leads-parts, leads-end}
 use Rattle.plans.specs.Inner.{Shifts}
@@ -57,11 +57,23 @@ goes-on-requires c κs =
     let p = told .before .before .before .pre in
     (p .0 .0 .pass, ((told .same-top-to .ensures .0 .some, shifts-some _ _ (shifts (told .before)), c .before .id-on .ensures), (top-here _ _ _ _ (p .1 .1), c .top-below .ensures)))
 
+few-requires : tie.Need-few-requires
+unfolding count
+few-requires c κs =
+    let told = c .before .before .before .before .before .before .before in
+    let p = told .before .before .before .pre in
+    ((p .0 .0, c .if4 .taken), (p .1 .0 .0, p .1 .0 .1, shifts (told .before)))
+
 returns-3 : tie.Need-returns-3
-returns-3 c = (le-refl _, (λ m. absurd (omega (arith, m))))
+returns-3 c =
+    let l = c .few .ensures .leads in
+    (omega (arith, l .some), (λ m. l))
 
 returns-4 : tie.Need-returns-4
-returns-4 c =
+returns-4 c = (le-refl _, (λ m. absurd (omega (arith, m))))
+
+returns-5 : tie.Need-returns-5
+returns-5 c =
     let joined = c .before in
     let u = unbroken (joined .before .before .before .before .before) in
     (omega (arith, u .some), (λ m. leads-parts nextLocation onward onward-zero next-location-is _ _ _ _ u _ _ _ refl refl (joined .goes-on .ensures) (c .if3 .left)))
@@ -77,5 +89,7 @@ end-of-spec =
     id-on-requires
     top-below-requires
     goes-on-requires
+    few-requires
     returns-3
-    returns-4)
+    returns-4
+    returns-5)
