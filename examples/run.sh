@@ -107,6 +107,7 @@ shown() {
     exit 1
 }
 shown file
+shown next
 
 # The lines that the page shows, by hand from the requirements.
 sed -n 's/^    //p' "$here/../docs/VIEW-AGAIN.md" > "$work/again.expected"
