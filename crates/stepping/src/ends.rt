@@ -36,7 +36,10 @@ pub(crate) fn end_of(list: &[u8], s: Scanned, p: u32, end: u32, block: u32) -> u
     }
     let id = tops::id_on(list, s.top);
     let next = scanning::top_below(list, s.before, e);
-    if joins::goes_on(list, id, s.top, p, next, e, block) {
+    if tops::id_on(list, next) != id {
+        return e;
+    }
+    if joins::lies_behind(list, s.top, p, next, e, block) {
         if list.len() / RECORD <= 32 {
             let found = rooms::few(list, p, end, block, bits);
             return found.end;

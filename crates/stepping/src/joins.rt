@@ -15,8 +15,21 @@ ghost use Rattle.runs.specs.Inner.{Leads};
 ghost use Rattle.plans.specs.Inner.{Shifts};
 ghost use Rattle.plans.specs.Location.{locationAt, nextLocation, onward};
 
-// Whether the piece from p on, with the record a on top of p, goes on at e, with b on top of it; id is a's. Most often the ids tell.
-pub(crate) fn goes_on(list: &[u8], id: u64, a: u16, p: u32, b: u16, e: u32, block: u32) -> bool
+// Whether the piece from p on, with the record a on top of p, goes on at e, with b on top of it.
+pub(crate) fn lies_behind(list: &[u8], a: u16, p: u32, b: u16, e: u32, block: u32) -> bool
+    requires { ⌜ All Passes (records (now list)) ⌝ }
+    requires { ⌜ (p < e) × (0 < block) ⌝ }
+    requires { ⌜ OnTop (now list) a p (p + 1) ⌝ }
+    requires { ⌜ OnTop (now list) b e (e + 1) ⌝ }
+    ensures { λ r. ⌜ r ≡ nextLocation (onward (locationAt block (records (now (list .entry))) p) (e - p - 1)) (locationAt block (records (now (list .entry))) e) ⌝ }
+{
+    let first = locations::location_of(tops::source_of(list, a, p), block);
+    let s = locations::location_of(tops::source_of(list, b, e), block);
+    locations::location_goes_on(first, e - p, s)
+}
+
+// The same where id is that of a. Most often the ids tell.
+fn goes_on(list: &[u8], id: u64, a: u16, p: u32, b: u16, e: u32, block: u32) -> bool
     requires { ⌜ All Passes (records (now list)) ⌝ }
     requires { ⌜ (p < e) × (0 < block) × (id ≡ idOn (now list) a) ⌝ }
     requires { ⌜ OnTop (now list) a p (p + 1) ⌝ }
@@ -29,9 +42,7 @@ pub(crate) fn goes_on(list: &[u8], id: u64, a: u16, p: u32, b: u16, e: u32, bloc
     if id == 0 {
         return true;
     }
-    let first = locations::location_of(tops::source_of(list, a, p), block);
-    let s = locations::location_of(tops::source_of(list, b, e), block);
-    locations::location_goes_on(first, e - p, s)
+    lies_behind(list, a, p, b, e, block)
 }
 
 // Where the maximal run of locations, of the positions from p up to `end`, that starts at p ends; segment k holds p.

@@ -2,7 +2,8 @@
 -- Assumes nothing.
 use native.Mathlib.Omega.{arith}
 use native.Mathlib.Nat.{le-refl}
-use mathlib.Core.Path.{refl}
+use mathlib.Core.Path.{refl, sym, _∙_}
+use mathlib.Core.Bool.{false}
 use denote.Ref.{now}
 use Rattle.slices.specs.Record.{records, count}
 use Rattle.runs.specs.Inner.{Unbroken}
@@ -11,6 +12,7 @@ use Rattle.plans.specs.Inner.{Shifts}
 use Rattle.plans.specs.Location.{locationAt, nextLocation, onward}
 use Rattle.plans.proofs.Laws.Locations.{onward-zero, next-location-is}
 use Rattle.plans.proofs.Laws.Shifts.{shifts-some}
+use Rattle.plans.proofs.Laws.Tops.{tops-part}
 use Rattle.stepping.proofs.Laws.Ends.{top-here, below-there, scan-unbroken}
 use borrow.Author.Needs.{needs}
 use Rattle.stepping.proofs.ends.end_of.Statement.{statement}
@@ -51,32 +53,44 @@ top-below-requires c κs =
     let t = below-there _ _ _ _ (p .1 .1) _ (told .same-top-to .ensures .0 .inside) (c .before .before .if1 .left) (c .before .if2 .left) in
     (p .0 .0 .pass, ((t .0, p .0 .0 .few), t .1))
 
-goes-on-requires : tie.Need-goes-on-requires
-goes-on-requires c κs =
-    let told = c .before .before .before .before in
+id-on-requires-2 : tie.Need-id-on-requires-2
+id-on-requires-2 c κs = λ i e. c .top-below .ensures .covering i e .0
+
+returns-3 : tie.Need-returns-3
+returns-3 c =
+    let below = c .before .before in
+    let told = below .before .before .before .before in
+    let u = unbroken told in
+    let parts = tops-part _ _ _ _ _ _ _ (top-here _ _ _ _ (told .before .before .before .pre .1 .1)) (below .top-below .ensures) (λ e. c .if3 .taken (c .before .id-on2 .ensures ∙ e ∙ sym (below .before .id-on .ensures))) in
+    (omega (arith, u .some), (λ m. leads-parts nextLocation onward onward-zero next-location-is _ _ _ _ u _ _ false refl refl parts refl))
+
+lies-behind-requires : tie.Need-lies-behind-requires
+lies-behind-requires c κs =
+    let below = c .before .before in
+    let told = below .before .before .before .before in
     let p = told .before .before .before .pre in
-    (p .0 .0 .pass, ((told .same-top-to .ensures .0 .some, shifts-some _ _ (shifts (told .before)), c .before .id-on .ensures), (top-here _ _ _ _ (p .1 .1), c .top-below .ensures)))
+    (p .0 .0 .pass, ((told .same-top-to .ensures .0 .some, shifts-some _ _ (shifts (told .before))), (top-here _ _ _ _ (p .1 .1), below .top-below .ensures)))
 
 few-requires : tie.Need-few-requires
 unfolding count
 few-requires c κs =
-    let told = c .before .before .before .before .before .before .before in
+    let told = c .before .before .before .before .before .before .before .before .before in
     let p = told .before .before .before .pre in
-    ((p .0 .0, c .if4 .taken), (p .1 .0 .0, p .1 .0 .1, shifts (told .before)))
+    ((p .0 .0, c .if5 .taken), (p .1 .0 .0, p .1 .0 .1, shifts (told .before)))
 
-returns-3 : tie.Need-returns-3
-returns-3 c =
+returns-4 : tie.Need-returns-4
+returns-4 c =
     let l = c .few .ensures .leads in
     (omega (arith, l .some), (λ m. l))
 
-returns-4 : tie.Need-returns-4
-returns-4 c = (le-refl _, (λ m. absurd (omega (arith, m))))
-
 returns-5 : tie.Need-returns-5
-returns-5 c =
+returns-5 c = (le-refl _, (λ m. absurd (omega (arith, m))))
+
+returns-6 : tie.Need-returns-6
+returns-6 c =
     let joined = c .before in
-    let u = unbroken (joined .before .before .before .before .before) in
-    (omega (arith, u .some), (λ m. leads-parts nextLocation onward onward-zero next-location-is _ _ _ _ u _ _ _ refl refl (joined .goes-on .ensures) (c .if3 .left)))
+    let u = unbroken (joined .before .before .before .before .before .before .before) in
+    (omega (arith, u .some), (λ m. leads-parts nextLocation onward onward-zero next-location-is _ _ _ _ u _ _ _ refl refl (joined .lies-behind .ensures) (c .if4 .left)))
 
 pub end-of-spec : {M : Type 1} → statement M
 end-of-spec =
@@ -88,8 +102,10 @@ end-of-spec =
     returns-2
     id-on-requires
     top-below-requires
-    goes-on-requires
-    few-requires
+    id-on-requires-2
     returns-3
+    lies-behind-requires
+    few-requires
     returns-4
-    returns-5)
+    returns-5
+    returns-6)
