@@ -31,6 +31,8 @@ module _ {R : Type 0} (next : ℕ → OutcomeOf R Step) where
     -- "A place inside a piece gives the rest of it", and the place behind the piece
     pub rest : (before after : List Piece) (p : Piece) → plan ≡ before ++ (p ∷ after) → (at : ℕ) → p .place ≤ at → at < p .place + p .len
         → next at ≡ done (given (restOf p (at - p .place)) (p .place + p .len))
+    -- from where on the pieces are those of the plan behind it
+    pub follows : (before after : List Piece) (p : Piece) → plan ≡ before ++ (p ∷ after) → HandsOut (p .place + p .len) after
     -- "one at or past the end is finished and stays so"
     pub stays : (at : ℕ) → n ≤ at → next at ≡ done finished
     -- and no other is: each place before the end gives a piece that starts there, and the place behind it, no further than the end

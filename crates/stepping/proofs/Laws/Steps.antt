@@ -105,6 +105,24 @@ module _ (f : ℕ → Site) (n : ℕ) where
   rests from [] v = tt
   rests from (r ∷ rs) v = (rest-here from r rs v, rests (from + r .len) rs (v .2))
 
+  -- ---- behind a piece
+
+  module _ {R : Type 0} (next : ℕ → OutcomeOf R Step) (is : (at : ℕ) → next at ≡ done (nextStep f n at)) where
+    -- behind each of these pieces those behind it are handed out
+    abbrev Behind : List Piece → Type 0
+    Behind [] = Unit {0}
+    Behind (p ∷ ps) = HandsOut next (p .place + p .len) ps × Behind ps
+
+    behind-each : (from : ℕ) (rs : List (Run Site)) → Valid nextSite f from n rs → Behind (map pieceIn rs)
+    behind-each from [] v = tt
+    behind-each from (r ∷ rs) v =
+        let e : pieceIn r .place + pieceIn r .len ≡ from + r .len = omega (arith, piece-place r, piece-len r, v .0 .starts) in
+        (rw e (steps-divide next is (from + r .len) rs (v .2)), behind-each (from + r .len) rs (v .2))
+
+    behind-one : (before after : List Piece) (p : Piece) → Behind (before ++ (p ∷ after)) → HandsOut next (p .place + p .len) after
+    behind-one [] after p h = h .0
+    behind-one (q ∷ before) after p h = behind-one before after p (h .1)
+
   -- ---- what comes at each place
 
   some-step : (at : ℕ) → at < n → (rs : List (Run Site)) → Valid nextSite f at n rs
@@ -141,12 +159,16 @@ module _ (f : ℕ → Site) (n : ℕ) where
     rest-of-a-piece before after p e at a b =
         is at ∙ ap done (all-right RestAt before (p ∷ after) (subst (All RestAt) e (rests 0 (runs nextSite f 0 n) divided)) .0 at a b)
 
+    pub plan-follows : (before after : List Piece) (p : Piece) → plan ≡ before ++ (p ∷ after) → HandsOut next (p .place + p .len) after
+    plan-follows before after p e = behind-one next is before after p (subst (Behind next is) e (behind-each next is 0 (runs nextSite f 0 n) divided))
+
     pub piece-by-piece : PieceByPiece next plan n
     piece-by-piece =
         record {
           one-by-one = one-by-one;
           only = λ ps h. hands-one next 0 ps plan h one-by-one;
           rest = rest-of-a-piece;
+          follows = plan-follows;
           stays = λ at h. is at ∙ ap done (finished-stays at h);
           more = λ at h. let s = step-some at h in (s .0, s .1, is at ∙ ap done (s .2), s .3, s .4, s .5, s .6);
         }
