@@ -15,8 +15,8 @@
  * 16; for all others it is 0. Where several fit, the first in this order is given:
  * 7, 21, 8, 1, 2, then the first bad record and in it 3, 4, 5, 6; then 16, 10, 9, 13, 11, 12.
  * ezk_added goes through it once for the older list, and only then for the newer.
- * ezk_file_plan and ezk_next_file_piece go through 1 to 6 and 16 list by list: the first
- * refused list in chunk order decides, and its place is counted in its own list.
+ * ezk_file_plan, ezk_next_file_piece and ezk_judge_plan go through 1 to 6 and 16 list by list:
+ * the first refused list in chunk order decides, and its place is counted in its own list.
  * A block size is allowed if it is a power of two from 65,536 to 16,777,216.
  *
  *   EZK_LIST_LENGTH     1  list length is no multiple of 24
@@ -77,6 +77,13 @@ enum {
     EZK_PIECE = 34,
     EZK_TKV_KEY = 14,
     EZK_LISTS = 16
+};
+
+/* What ezk_judge_plan says of a plan; 0 stands for none of them, on a refusal. */
+enum {
+    EZK_ACCEPTED = 1,
+    EZK_WRONG_PIECE = 2,
+    EZK_WRONG_BYTE = 3
 };
 
 /*
@@ -164,6 +171,15 @@ typedef struct ezk_file_next {
     uint64_t in_block;
     uint64_t len;
 } ezk_file_next;
+
+/* What ezk_judge_plan returns. A plan is accepted only if verdict is EZK_ACCEPTED. */
+typedef struct ezk_judged {
+    uint64_t refusal;
+    uint64_t place;
+    uint64_t index;   /* chunk index of the refused list, for 1 to 6 and 16; else 0 */
+    uint64_t verdict; /* EZK_ACCEPTED, EZK_WRONG_PIECE or EZK_WRONG_BYTE; 0 on a refusal */
+    uint64_t at;      /* number of the wrong piece, from 0, or place of the byte; else 0 */
+} ezk_judged;
 
 /* What compaction returns. */
 typedef struct ezk_compacted {
@@ -342,6 +358,40 @@ ezk_file_next ezk_next_file_piece(const uint8_t *lists, size_t lists_len, const 
                                   size_t lengths_count, uint64_t first_index, uint64_t file_len,
                                   uint64_t block_size, uint64_t start, uint64_t count,
                                   uint64_t at);
+
+/*
+ * Says of a plan that was made elsewhere whether it gives each byte of a read once, and from where
+ * the byte lies. The read is passed as to ezk_file_plan; plan is plan_len bytes, 34 a piece, cut
+ * and ordered in any way. The verdict is
+ *
+ *   EZK_WRONG_PIECE  where a piece is wrong in itself; at is the number, from 0, of the first that
+ *                    is. It is wrong if it has length 0; is cut short (fewer than 34 bytes are
+ *                    left); has another mark than "RB" and "RZ"; reaches outside the read; is an
+ *                    "RZ" with id, block, block length or place in block set; or if the chunk, or
+ *                    the object and the place in it, or zero, is for any byte of it not what the
+ *                    lists give there. So none may reach beyond the piece of ezk_file_plan in
+ *                    which it starts, nor over a chunk's edge; several shorter ones may stand for
+ *                    one. A rest of 1 to 33 bytes counts as the piece behind the whole ones.
+ *   EZK_WRONG_BYTE   else where a byte of the read is in no piece or in more than one; at is the
+ *                    place in the read of the first such byte.
+ *   EZK_ACCEPTED     else. Then the plan fetches the same bytes as that of ezk_file_plan.
+ *
+ * Each plan of ezk_file_plan is accepted, and so is each that cuts its pieces into shorter ones, in
+ * any order. One of ezk_read_plan is judged with its one list, its index as first_index, and index
+ * * 64 MiB + chunk_len as file_len. For an empty read only the empty plan is accepted. No object is
+ * looked at: an "RZ" where an object happens to hold zeros is wrong. No sum wraps.
+ *
+ * Every list is checked first, also where the plan is wrong. Nothing is written, and plan may
+ * overlap the lists. Right pieces in order are judged in one pass, also if they end too soon, and
+ * each list that the read touches is resolved once. Otherwise there is one pass for each of these
+ * lists, and then, if no piece is wrong, one for each 2,000 pieces or so, a few times as many where
+ * they crowd.
+ * Refusals, in order: 21, 8, then list by list 1, 2, 3 to 6, 16.
+ */
+ezk_judged ezk_judge_plan(const uint8_t *lists, size_t lists_len, const uint64_t *lengths,
+                          size_t lengths_count, uint64_t first_index, uint64_t file_len,
+                          uint64_t block_size, uint64_t start, uint64_t count,
+                          const uint8_t *plan, size_t plan_len);
 
 /*
  * Writes the plan that copies the first k records into the new slice new_id, and the new
