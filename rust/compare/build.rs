@@ -7,7 +7,7 @@ use std::env;
 use std::path::PathBuf;
 use std::process::{exit, Command};
 
-const SPOILT: [&str; 5] = ["VIEW", "FILE", "NEXT", "FILE_NEXT", "PART"];
+const SPOILT: [&str; 6] = ["VIEW", "FILE", "NEXT", "FILE_NEXT", "JUDGED", "PART"];
 
 fn main() {
     let here = PathBuf::from(env::var_os("CARGO_MANIFEST_DIR").expect("cargo sets this"));

@@ -19,6 +19,9 @@
 #ifndef SPOIL_FILE_NEXT
 #define SPOIL_FILE_NEXT
 #endif
+#ifndef SPOIL_JUDGED
+#define SPOIL_JUDGED
+#endif
 #ifndef SPOIL_NEXT
 #define SPOIL_NEXT
 #endif
@@ -86,6 +89,13 @@ FIELD(ezk_file_next, in_block, 11);
 FIELD(ezk_file_next, len, 12);
 FIELDS(ezk_file_next, 13);
 
+FIELD(ezk_judged, refusal, 0);
+FIELD(ezk_judged, place, 1);
+FIELD(ezk_judged, index, 2);
+FIELD(ezk_judged, verdict, 3);
+FIELD(ezk_judged, at, 4);
+FIELDS(ezk_judged, 5);
+
 FIELD(ezk_compacted, refusal, 0);
 FIELD(ezk_compacted, place, 1);
 FIELD(ezk_compacted, plan, 2);
@@ -140,6 +150,9 @@ static const struct {
     NAMED(EZK_PIECE),
     NAMED(EZK_TKV_KEY),
     NAMED(EZK_LISTS),
+    NAMED(EZK_ACCEPTED),
+    NAMED(EZK_WRONG_PIECE),
+    NAMED(EZK_WRONG_BYTE),
 };
 
 /* The name of a constant, and its value; NULL behind the last one. */
@@ -210,6 +223,15 @@ static void file_next(ezk_file_next a, uint64_t *to)
     to[10] = a.block_len;
     to[11] = a.in_block;
     to[12] = a.len;
+}
+
+static void judged(ezk_judged a, uint64_t *to)
+{
+    to[0] = a.refusal;
+    to[1] = a.place;
+    to[2] = a.index;
+    to[3] = a.verdict;
+    to[4] = a.at;
 }
 
 static void compacted(ezk_compacted a, uint64_t *to)
@@ -308,6 +330,17 @@ void via_next_file_piece(const uint8_t *lists, size_t lists_len, const uint64_t 
                                           file_len, block_size, start, count, at);
     SPOIL_FILE_NEXT
     file_next(a, to);
+}
+
+void via_judge_plan(const uint8_t *lists, size_t lists_len, const uint64_t *lengths,
+                    size_t lengths_count, uint64_t first_index, uint64_t file_len,
+                    uint64_t block_size, uint64_t start, uint64_t count, const uint8_t *plan,
+                    size_t plan_len, uint64_t *to)
+{
+    ezk_judged a = ezk_judge_plan(lists, lists_len, lengths, lengths_count, first_index, file_len,
+                                  block_size, start, count, plan, plan_len);
+    SPOIL_JUDGED
+    judged(a, to);
 }
 
 void via_compact(const uint8_t *list, size_t list_len, uint64_t index, uint64_t block_size,

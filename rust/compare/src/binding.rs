@@ -2,7 +2,7 @@
 //! was compiled from the header. Every call is made both ways.
 
 use ezumokarin::sys::{self, ezk_answer, ezk_chunk_key, ezk_compacted, ezk_file_answer};
-use ezumokarin::sys::{ezk_file_next, ezk_found, ezk_next, ezk_object, ezk_part};
+use ezumokarin::sys::{ezk_file_next, ezk_found, ezk_judged, ezk_next, ezk_object, ezk_part};
 
 use crate::header;
 
@@ -18,6 +18,7 @@ pub struct Binding {
     pub file_plan: fn(&[u8], &[u64], u64, u64, u64, u64, u64, &mut [u8]) -> ezk_file_answer,
     pub next_piece: fn(&[u8], u64, u64, u64, u64, u64, u64) -> ezk_next,
     pub next_file_piece: fn(&[u8], &[u64], u64, u64, u64, u64, u64, u64) -> ezk_file_next,
+    pub judge_plan: fn(&[u8], &[u64], u64, u64, u64, u64, u64, &[u8]) -> ezk_judged,
     pub compact: fn(&[u8], u64, u64, u64, u64, &mut [u8], &mut [u8]) -> ezk_compacted,
     pub added: fn(&[u8], &[u8]) -> ezk_part,
     pub write_object_name: fn(u64, u64, u64, &mut [u8]) -> ezk_answer,
@@ -40,6 +41,7 @@ const RUST: Binding = Binding {
     file_plan: sys::file_plan,
     next_piece: sys::next_piece,
     next_file_piece: sys::next_file_piece,
+    judge_plan: sys::judge_plan,
     compact: sys::compact,
     added: sys::added,
     write_object_name: sys::write_object_name,

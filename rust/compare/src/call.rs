@@ -76,6 +76,13 @@ pub enum Call {
         count: u64,
         at: u64,
     },
+    JudgePlan {
+        file: Joined,
+        block_size: u64,
+        start: u64,
+        count: u64,
+        plan: Vec<u8>,
+    },
     Compact {
         list: Vec<u8>,
         index: u64,
@@ -149,6 +156,7 @@ impl Call {
             Call::FilePlan { .. } => "file_plan",
             Call::NextPiece { .. } => "next_piece",
             Call::NextFilePiece { .. } => "next_file_piece",
+            Call::JudgePlan { .. } => "judge_plan",
             Call::Compact { .. } => "compact",
             Call::Added { .. } => "added",
             Call::WriteObjectName { .. } => "write_object_name",

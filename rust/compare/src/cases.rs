@@ -3,6 +3,7 @@
 
 mod files;
 mod history;
+mod judge;
 mod next;
 mod seeking;
 
@@ -33,7 +34,8 @@ pub fn all() -> Vec<Call> {
     ]
     .concat();
     let pieces = next::of(&calls);
-    [calls, pieces].concat()
+    let judged = judge::of(&calls);
+    [calls, pieces, judged].concat()
 }
 
 fn list(rows: &[(u64, u64, u64, u64, u64)]) -> Vec<u8> {

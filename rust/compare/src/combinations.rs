@@ -5,6 +5,7 @@ mod faulty;
 mod files;
 mod forms;
 mod history;
+mod judge;
 mod next;
 mod seeking;
 
@@ -70,6 +71,7 @@ pub fn run(tally: &mut Tally) {
         files::two_bad_lists(tally, variant);
         next::next_piece(tally, variant);
         next::next_file_piece(tally, variant);
+        judge::judge_plan(tally, variant);
         compact(tally, variant);
         history::added(tally, variant);
     }

@@ -1,12 +1,14 @@
 //! The header's constants, by name, against the second program: a refusal's number is the one
-//! that the second program gives in the case that the name stands for.
+//! that the second program gives in the case that the name stands for. Some are the Rust crate's too.
 
 use std::ffi::{c_char, CStr};
 
+use ezumokarin::sys;
 use second::limits::{CHUNK, FILE_LISTS, INDEX_MAX, LIST_RECORDS, PIECE, RECORD};
 use second::limits::{TIDIED_RECORDS, TKV_KEY};
-use second::{Record, Refusal};
+use second::{Judged, Record, Refusal, Wrong};
 
+use crate::expected::judged;
 use crate::lists::combed;
 use crate::tally::Tally;
 
@@ -19,14 +21,25 @@ extern "C" {
 
 pub fn run(tally: &mut Tally) {
     let found = in_header();
-    let expected = [sizes(), of_lists(), of_calls()].concat();
+    let expected = [sizes(), of_lists(), of_calls(), verdicts()].concat();
     if found.len() != expected.len() {
         tally.difference("the header's constants", &format!("{} of them", found.len()));
     }
+    same(tally, &found, "second program", expected);
+    same(tally, &found, "Rust crate", of_crate());
+}
+
+/// Each of these has in the header the value that it has there.
+fn same(
+    tally: &mut Tally,
+    found: &[(String, u64)],
+    there: &str,
+    expected: Vec<(&'static str, u64)>,
+) {
     for (name, want) in expected {
         let got = found.iter().find(|constant| constant.0 == name).map(|constant| constant.1);
         if got != Some(want) {
-            let what = format!("header {got:?}, second program {want}");
+            let what = format!("header {got:?}, {there} {want}");
             tally.difference(&format!("the header's constant {name}"), &what);
         }
     }
@@ -87,6 +100,26 @@ fn of_calls() -> Vec<(&'static str, u64)> {
         ("EZK_BUFFER", number(second::view(&[], 1, &mut []))),
         ("EZK_CHUNK_LISTS", number(second::read_plan_bytes(&[], INDEX_MAX + 1, 0, BLOCK, 0, 0))),
         ("EZK_FORM", number(second::read_redis_key(&[]))),
+    ]
+}
+
+fn verdicts() -> Vec<(&'static str, u64)> {
+    let verdict = |said| judged(Ok(said)).1.verdict;
+    let wrong_piece = Judged::WrongPiece { number: 0, why: Wrong::Mark };
+    let wrong_byte = Judged::WrongByte { place: 0, pieces: 0 };
+    vec![
+        ("EZK_ACCEPTED", verdict(Judged::Accepted)),
+        ("EZK_WRONG_PIECE", verdict(wrong_piece)),
+        ("EZK_WRONG_BYTE", verdict(wrong_byte)),
+    ]
+}
+
+/// Those that the Rust crate names.
+fn of_crate() -> Vec<(&'static str, u64)> {
+    vec![
+        ("EZK_ACCEPTED", sys::EZK_ACCEPTED),
+        ("EZK_WRONG_PIECE", sys::EZK_WRONG_PIECE),
+        ("EZK_WRONG_BYTE", sys::EZK_WRONG_BYTE),
     ]
 }
 

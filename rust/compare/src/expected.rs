@@ -1,8 +1,10 @@
 //! Answers of the second program as the C interface gives them, each with its refusal's
 //! number in front, 0 for none.
 
+mod judge;
 mod next;
 
+pub use judge::judged;
 pub use next::{file_next, next};
 
 use ezumokarin::sys::{ezk_answer, ezk_chunk_key, ezk_compacted, ezk_file_answer};

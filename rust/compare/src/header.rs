@@ -2,7 +2,7 @@
 //! hands the fields over in a row of numbers.
 
 use ezumokarin::sys::{ezk_answer, ezk_chunk_key, ezk_compacted, ezk_file_answer};
-use ezumokarin::sys::{ezk_file_next, ezk_found, ezk_next, ezk_object, ezk_part};
+use ezumokarin::sys::{ezk_file_next, ezk_found, ezk_judged, ezk_next, ezk_object, ezk_part};
 
 use crate::binding::Binding;
 
@@ -16,6 +16,7 @@ pub const BINDING: Binding = Binding {
     file_plan,
     next_piece,
     next_file_piece,
+    judge_plan,
     compact,
     added,
     write_object_name,
@@ -86,6 +87,20 @@ extern "C" {
         start: u64,
         count: u64,
         at: u64,
+        to: To,
+    );
+    fn via_judge_plan(
+        lists: In,
+        lists_len: usize,
+        lengths: Numbers,
+        lengths_count: usize,
+        first_index: u64,
+        file_len: u64,
+        block_size: u64,
+        start: u64,
+        count: u64,
+        plan: In,
+        plan_len: usize,
         to: To,
     );
     fn via_compact(
@@ -175,6 +190,10 @@ fn file_next(row: [u64; 13]) -> ezk_file_next {
         in_block,
         len,
     }
+}
+
+fn judged([refusal, place, index, verdict, at]: [u64; 5]) -> ezk_judged {
+    ezk_judged { refusal, place, index, verdict, at }
 }
 
 fn part([refusal, place, rewritten, offset, length]: [u64; 5]) -> ezk_part {
@@ -275,6 +294,26 @@ fn next_file_piece(
     let (first, end, size) = (first_index, file_len, block_size);
     file_next(filled(|to| unsafe {
         via_next_file_piece(lists, lists_len, row, rows, first, end, size, start, count, at, to)
+    }))
+}
+
+#[allow(clippy::too_many_arguments)] // these are the call's own inputs
+fn judge_plan(
+    lists: &[u8],
+    lengths: &[u64],
+    first_index: u64,
+    file_len: u64,
+    block_size: u64,
+    start: u64,
+    count: u64,
+    plan: &[u8],
+) -> ezk_judged {
+    let (lists, lists_len) = (lists.as_ptr(), lists.len());
+    let (row, rows) = (lengths.as_ptr(), lengths.len());
+    let (first, end, size) = (first_index, file_len, block_size);
+    let (plan, len) = (plan.as_ptr(), plan.len());
+    judged(filled(|to| unsafe {
+        via_judge_plan(lists, lists_len, row, rows, first, end, size, start, count, plan, len, to)
     }))
 }
 

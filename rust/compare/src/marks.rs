@@ -1,11 +1,13 @@
-//! Kinds of lists, of plans, of seeking, of pairs of lists, of reads across chunks and of places in a
-//! read that random calls must have met, each counted in a table of its own.
+//! Kinds of lists, of plans, of seeking, of pairs of lists, of reads across chunks, of places in a read
+//! and of judged plans that random calls must have met, each counted in a table of its own.
 
 mod files;
 mod history;
+mod judge;
 mod next;
 mod plans;
 mod seeking;
+mod shown;
 
 use std::collections::HashSet;
 
@@ -44,6 +46,7 @@ pub fn count(tally: &mut Tally, call: &Call, refusal: u64) {
     files::count(tally, call, refusal);
     plans::count(tally, call, refusal);
     next::count(tally, call, refusal);
+    judge::count(tally, call, refusal);
     let Some(list) = call.list() else {
         return;
     };
@@ -61,6 +64,7 @@ pub fn missed(tally: &Tally) -> Vec<String> {
         |(mark, call): (&Mark, &str)| format!("no {call} of {} gives {}", mark.name, mark.met);
     let others = seeking::missed(tally).chain(history::missed(tally)).chain(files::missed(tally));
     let others = others.chain(plans::missed(tally)).chain(next::missed(tally));
+    let others = others.chain(judge::missed(tally));
     missed.map(said).chain(others).collect()
 }
 

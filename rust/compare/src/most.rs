@@ -42,7 +42,8 @@ pub fn read(call: &Call) -> u64 {
         Call::ReadPlan { chunk_len, start, count, .. }
         | Call::NextPiece { chunk_len, start, count, .. } => (CHUNK.min(*chunk_len), start, count),
         Call::FilePlan { file, start, count, .. }
-        | Call::NextFilePiece { file, start, count, .. } => {
+        | Call::NextFilePiece { file, start, count, .. }
+        | Call::JudgePlan { file, start, count, .. } => {
             (file.file_end().min(file.of_lists()), start, count)
         }
         Call::Compact { list, k, .. } => return covered(&first(list, *k)),

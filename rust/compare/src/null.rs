@@ -8,8 +8,8 @@ use ezumokarin::sys::*;
 use second::limits::RECORD;
 use second::File;
 
-use crate::expected::part;
-use crate::expected::{across, answered, chunk_key, compacted, file_next, found, next, object};
+use crate::expected::{across, answered, chunk_key, compacted, file_next, found, judged, next};
+use crate::expected::{object, part};
 use crate::tally::Tally;
 
 const ORIGIN: &str = "null pointers";
@@ -88,6 +88,10 @@ fn files(tally: &mut Tally) {
         let got =
             unsafe { ezk_next_file_piece(nil, 0, lengths, count, 0, file_len, BLOCK, 0, 9, 2) };
         same(tally, "next_file_piece", got, file_next(want, 2));
+        let want = second::judge(&file, BLOCK, 0, 9, &[]);
+        let got =
+            unsafe { ezk_judge_plan(nil, 0, lengths, count, 0, file_len, BLOCK, 0, 9, nil, 0) };
+        same(tally, "judge_plan", got, judged(want));
     }
 }
 

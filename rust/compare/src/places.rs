@@ -29,7 +29,7 @@ pub fn somewhere(rng: &mut Rng, mut planned: Call) -> Call {
 }
 
 /// Makes it a long read from the front on: many pieces for a place to lie in.
-fn widen(rng: &mut Rng, planned: &mut Call) {
+pub fn widen(rng: &mut Rng, planned: &mut Call) {
     if let Call::ReadPlan { start, count, .. } | Call::FilePlan { start, count, .. } = planned {
         *start = rng.below(20);
         *count = u64::MAX - rng.below(40);

@@ -2,7 +2,7 @@
 
 use crate::call::{Call, Room};
 use crate::tally::Tally;
-use crate::{files, history, lists, marks, most, mutate, numbers, places, texts, views};
+use crate::{elsewhere, files, history, lists, marks, most, mutate, numbers, places, texts, views};
 use rng::Rng;
 
 const ORIGIN: &str = "random";
@@ -21,7 +21,8 @@ pub fn run(tally: &mut Tally, seed: u64, calls: u64) {
 }
 
 /// Random calls must meet every refusal that the chosen calls do, and every kind of list, of plan,
-/// of seeking, of pair, of read across chunks and of place that is marked; else they are too tame.
+/// of seeking, of pair, of read across chunks, of place and of judged plan that is marked; else they
+/// are too tame.
 pub fn reach(tally: &mut Tally) {
     for missed in marks::missed(tally) {
         tally.difference("random calls", &missed);
@@ -32,7 +33,7 @@ pub fn reach(tally: &mut Tally) {
 }
 
 fn any_call(rng: &mut Rng) -> Call {
-    match rng.below(24) {
+    match rng.below(27) {
         0..=9 => with_list(rng),
         10 => in_view(rng),
         11 => Call::Added { pair: history::pair(rng) },
@@ -41,6 +42,10 @@ fn any_call(rng: &mut Rng) -> Call {
             files::call(rng, out)
         }
         15..=20 => next_piece(rng),
+        21..=23 => {
+            let planned = files::call(rng, Room::Right);
+            elsewhere::judged(rng, planned)
+        }
         _ => with_text(rng),
     }
 }

@@ -1,6 +1,7 @@
 //! Makes one call through a binding of the archive and by the second program, and says what differs.
 
 mod file;
+mod judge;
 mod next;
 mod two;
 
@@ -59,6 +60,10 @@ pub fn run(binding: &Binding, call: &Call, shift: usize) -> Seen {
         Call::NextFilePiece { file, block_size, start, count, at } => {
             let read = (*block_size, *start, *count);
             next::of_file(file, read, *at, shift, binding.next_file_piece)
+        }
+        Call::JudgePlan { file, block_size, start, count, plan } => {
+            let read = (*block_size, *start, *count);
+            judge::reading(file, read, plan, shift, binding.judge_plan)
         }
         Call::Compact { list, index, block_size, k, new_id, plan, new_list } => {
             let want = second::compact_bytes(list, *index, *block_size, *k, *new_id);

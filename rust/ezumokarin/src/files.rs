@@ -7,8 +7,8 @@ use std::fmt;
 use crate::refusal::passed;
 use crate::{sys, Refusal};
 
-/// A refusal of [`file_plan`] or of [`next_file_piece`](crate::next_file_piece()), and which list is
-/// at fault.
+/// A refusal of [`file_plan`], of [`next_file_piece`](crate::next_file_piece()) or of
+/// [`judge_plan`](crate::judge_plan()), and which list is at fault.
 #[derive(Clone, Copy, Debug, PartialEq, Eq, Hash)]
 pub struct ListRefusal {
     /// Why there is no answer; its place is counted in the refused list.
@@ -23,7 +23,8 @@ pub struct ListRefusal {
 /// file's beginning; the read is cut to the file's end, at `file_len`, and to that of the last
 /// list's chunk. No piece crosses the edge of a chunk, and places count from the start of the read.
 ///
-/// [`file_pieces`](crate::file_pieces()) gives the plan piece by piece, without room for it all.
+/// [`file_pieces`](crate::file_pieces()) gives the plan piece by piece, without room for it all, and
+/// [`judge_plan`](crate::judge_plan()) judges one that was made elsewhere.
 ///
 /// A plan has at most 4 x records + 2 x lists + bytes of the read / block size pieces, where records
 /// are those of all lists. With room for so many, of [`Piece::LEN`](crate::Piece::LEN) bytes each,

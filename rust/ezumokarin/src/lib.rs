@@ -27,6 +27,7 @@
 mod files;
 mod find;
 mod history;
+mod judge;
 mod keys;
 mod lists;
 mod names;
@@ -41,6 +42,7 @@ mod walk;
 pub use files::{file_plan, ListRefusal};
 pub use find::{find, Found};
 pub use history::{added, Added};
+pub use judge::{judge_plan, Judged};
 pub use keys::{read_redis_key, read_tkv_key, write_redis_key, write_tkv_key, ChunkKey};
 pub use lists::{check, compact, read_plan, tidy, view, Compacted};
 pub use names::{read_full_name, read_object_name, FullName, ObjectName};

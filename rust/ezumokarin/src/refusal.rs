@@ -6,9 +6,9 @@ use std::fmt;
 /// Why a call gave no answer. Where several fit, the library gives the first in this order:
 /// 7, 21, 8, 1, 2, then the first bad record and in it 3, 4, 5, 6; then 16, 10, 9, 13, 11, 12.
 /// [`added`](crate::added()) goes through it once for the older list, and only then for the newer.
-/// [`file_plan`](crate::file_plan()) and [`next_file_piece`](crate::next_file_piece()) go through 1
-/// to 6 and 16 list by list: the first refused list in chunk order decides, and its place is counted
-/// in its own list.
+/// [`file_plan`](crate::file_plan()), [`next_file_piece`](crate::next_file_piece()) and
+/// [`judge_plan`](crate::judge_plan()) go through 1 to 6 and 16 list by list: the first refused list
+/// in chunk order decides, and its place is counted in its own list.
 ///
 /// `place` is the place of the record in its list, counted from 0.
 ///

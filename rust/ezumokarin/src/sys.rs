@@ -117,6 +117,29 @@ pub struct ezk_file_next {
     pub len: u64,
 }
 
+/// Verdict of `ezk_judge_plan`: the plan is accepted.
+pub const EZK_ACCEPTED: u64 = 1;
+/// Verdict of `ezk_judge_plan`: a piece is wrong in itself.
+pub const EZK_WRONG_PIECE: u64 = 2;
+/// Verdict of `ezk_judge_plan`: a byte of the read is in no piece, or in more than one.
+pub const EZK_WRONG_BYTE: u64 = 3;
+
+/// What `ezk_judge_plan` returns.
+#[repr(C)]
+#[derive(Clone, Copy, Debug, Default, PartialEq, Eq)]
+pub struct ezk_judged {
+    /// 0, or the number of the refusal.
+    pub refusal: u64,
+    /// The place of the refused record in its list, for refusals 3 to 6 and 16.
+    pub place: u64,
+    /// The chunk index of the refused list, for refusals 1 to 6 and 16; else 0.
+    pub index: u64,
+    /// [`EZK_ACCEPTED`], [`EZK_WRONG_PIECE`] or [`EZK_WRONG_BYTE`]; 0 on a refusal.
+    pub verdict: u64,
+    /// The number of the wrong piece, from 0, or the place of the byte; else 0.
+    pub at: u64,
+}
+
 /// What compaction returns.
 #[repr(C)]
 #[derive(Clone, Copy, Debug, Default, PartialEq, Eq)]
@@ -209,6 +232,7 @@ fields!(
     ezk_file_next: refusal, place, list_index, finished, next, mark, index, at, id, block,
     block_len, in_block, len
 );
+fields!(ezk_judged: refusal, place, index, verdict, at);
 fields!(ezk_compacted: refusal, place, plan, list);
 fields!(ezk_part: refusal, place, rewritten, offset, length);
 fields!(ezk_object: refusal, place, id, block, length, volume);
@@ -272,6 +296,19 @@ extern "C" {
         count: u64,
         at: u64,
     ) -> ezk_file_next;
+    pub fn ezk_judge_plan(
+        lists: *const u8,
+        lists_len: usize,
+        lengths: *const u64,
+        lengths_count: usize,
+        first_index: u64,
+        file_len: u64,
+        block_size: u64,
+        start: u64,
+        count: u64,
+        plan: *const u8,
+        plan_len: usize,
+    ) -> ezk_judged;
     pub fn ezk_compact(
         list: *const u8,
         list_len: usize,
@@ -418,6 +455,35 @@ pub fn next_file_piece(
             start,
             count,
             at,
+        )
+    }
+}
+
+/// `ezk_judge_plan`
+#[allow(clippy::too_many_arguments)] // these are the call's own inputs
+pub fn judge_plan(
+    lists: &[u8],
+    lengths: &[u64],
+    first_index: u64,
+    file_len: u64,
+    block_size: u64,
+    start: u64,
+    count: u64,
+    plan: &[u8],
+) -> ezk_judged {
+    unsafe {
+        ezk_judge_plan(
+            lists.as_ptr(),
+            lists.len(),
+            lengths.as_ptr(),
+            lengths.len(),
+            first_index,
+            file_len,
+            block_size,
+            start,
+            count,
+            plan.as_ptr(),
+            plan.len(),
         )
     }
 }

@@ -41,6 +41,31 @@ fn every_call_in_the_stated_stack() {
     in_the_stated_stack(calls);
 }
 
+/// A plan of more pieces than any window of the judge can hold, from its end to its beginning, and in
+/// no order.
+#[test]
+fn judged_in_the_stated_stack() {
+    let rows: Vec<_> =
+        (0..2_048).map(|i| (2 * (i * 1_151 % 2_048) + 1, 5_000 - u64::from(i), 1, 0, 1)).collect();
+    let (lists, lengths) = (list(&rows).repeat(16), [49_152; 16]);
+    let mut plan = vec![0; 2 * 4_097 * Piece::LEN];
+    in_the_stated_stack(move || {
+        let (start, count) = (14 * CHUNK, u64::MAX);
+        let written = file_plan(&lists, &lengths, 7, u64::MAX, BLOCK, start, count, &mut plan);
+        assert_eq!(written, Ok(plan.len()));
+        let falling: Vec<u8> = plan.rchunks(Piece::LEN).flatten().copied().collect();
+        let judge = |plan| judge_plan(&lists, &lengths, 7, u64::MAX, BLOCK, start, count, plan);
+        assert_eq!(judge(&plan), Ok(Judged::Accepted));
+        assert_eq!(judge(&falling), Ok(Judged::Accepted));
+        assert_eq!(judge(&falling[Piece::LEN..]), Ok(Judged::WrongByte(CHUNK + 4_096)));
+        assert_eq!(judge(&falling[1..]), Ok(Judged::WrongPiece(0)));
+        let nth = |i: usize| &plan[i * Piece::LEN..][..Piece::LEN];
+        let mixed: Vec<u8> = (0..8_194).flat_map(|i| nth(i * 1_151 % 8_194)).copied().collect();
+        assert_eq!(judge(&mixed), Ok(Judged::Accepted));
+        assert_eq!(judge(&mixed[Piece::LEN..]), Ok(Judged::WrongByte(0)));
+    });
+}
+
 /// The byte at position 4,095 of a chunk, which is of one slice, alone.
 fn slice_byte<E>(index: u32, place: u64) -> Result<Option<Next>, E> {
     let from = Location::Object { id: HIGHEST, block: 0, length: 1, at: 0 };

@@ -1,12 +1,14 @@
 //! A stand-in for the real library, for testing the tests: the C interface over `second`.
 
 mod answers;
+mod judge;
 mod lent;
 mod next;
 
 use answers::{across, answered, compacted, found, key, object, part};
 use answers::{ezk_answer, ezk_chunk_key, ezk_compacted, ezk_file_answer};
 use answers::{ezk_found, ezk_object, ezk_part};
+use judge::{ezk_judged, judged};
 use lent::{bytes, numbers, room};
 use next::{ezk_file_next, ezk_next, file_next, next};
 
@@ -128,6 +130,27 @@ pub unsafe extern "C" fn ezk_next_file_piece(
     let (lists, lengths) = (bytes(lists, lists_len), numbers(lengths, lengths_count));
     let file = second::File { lists, lengths, first_index, file_len };
     file_next(second::next_file_piece(&file, block_size, start, count, at), at)
+}
+
+/// # Safety
+/// As for [`ezk_file_plan`].
+#[no_mangle]
+pub unsafe extern "C" fn ezk_judge_plan(
+    lists: *const u8,
+    lists_len: usize,
+    lengths: *const u64,
+    lengths_count: usize,
+    first_index: u64,
+    file_len: u64,
+    block_size: u64,
+    start: u64,
+    count: u64,
+    plan: *const u8,
+    plan_len: usize,
+) -> ezk_judged {
+    let (lists, lengths) = (bytes(lists, lists_len), numbers(lengths, lengths_count));
+    let file = second::File { lists, lengths, first_index, file_len };
+    judged(second::judge(&file, block_size, start, count, bytes(plan, plan_len)))
 }
 
 /// # Safety

@@ -25,9 +25,9 @@ pub struct ListRefusal {
 
 /// Where a byte lies, and in which chunk: two bytes of two chunks are never in one run.
 #[derive(Clone, Copy, Debug, PartialEq, Eq)]
-struct InChunk {
-    index: u64,
-    location: Location,
+pub struct InChunk {
+    pub index: u64,
+    pub location: Location,
 }
 
 /// Refusals 21, 8, then list by list 1, 2, 3 to 6, 16; then 12.
@@ -50,6 +50,18 @@ pub fn file_plan_bytes(
     start: u64,
     count: u64,
 ) -> Result<Vec<u8>, ListRefusal> {
+    let parts = located(file, block_size, start, count)?;
+    Ok(join(parts).iter().flat_map(|run| piece(run).to_bytes()).collect())
+}
+
+/// Where the bytes of a read lie, in parts that need not be the longest; they start at places in the
+/// read.
+pub fn located(
+    file: &File,
+    block_size: u64,
+    start: u64,
+    count: u64,
+) -> Result<Vec<Run<InChunk>>, ListRefusal> {
     file.check().map_err(ListRefusal::of_no_list)?;
     check::block_size(block_size).map_err(ListRefusal::of_no_list)?;
     let chunks = file.chunks()?;
@@ -58,13 +70,16 @@ pub fn file_plan_bytes(
         return Ok(Vec::new());
     }
     let to = start + count.min(end - start);
-    let mut locations = Vec::new();
+    let mut located = Vec::new();
     for part in parts(&chunks, start, to) {
         let index = file.first_index + part.start / CHUNK;
-        let in_chunk = |run: Run<Location>| run.with(InChunk { index, location: run.first });
-        locations.extend(in_blocks(part, block_size).into_iter().map(in_chunk));
+        let in_chunk = |run: Run<Location>| {
+            let first = InChunk { index, location: run.first };
+            Run { start: run.start - start, len: run.len, first }
+        };
+        located.extend(in_blocks(part, block_size).into_iter().map(in_chunk));
     }
-    Ok(join(locations).iter().flat_map(|run| piece(run, start).to_bytes()).collect())
+    Ok(located)
 }
 
 /// Divides the file's positions from `from` up to `to` at every boundary of a record and every edge
@@ -80,9 +95,9 @@ fn parts(chunks: &[Vec<Record>], from: u64, to: u64) -> Vec<Run<Source>> {
     divided(edges.into_iter(), from, to).map(part).collect()
 }
 
-fn piece(run: &Run<InChunk>, start: u64) -> Piece {
+fn piece(run: &Run<InChunk>) -> Piece {
     let InChunk { index, location } = run.first;
-    Piece { index, place: run.start - start, from: location, len: run.len }
+    Piece { index, place: run.start, from: location, len: run.len }
 }
 
 impl Step for InChunk {

@@ -14,13 +14,6 @@ pub struct Run<T> {
     pub first: T,
 }
 
-impl<T> Run<T> {
-    /// The same positions with another first value.
-    pub fn with<U>(&self, first: U) -> Run<U> {
-        Run { start: self.start, len: self.len, first }
-    }
-}
-
 /// Divides the positions from `from` up to `to` at every boundary of a record.
 /// Inside a part the same records cover all positions.
 pub fn parts(records: &[Record], from: u64, to: u64) -> Vec<Run<Source>> {

@@ -4,7 +4,7 @@
 use second::limits::{CHUNK, FILE_LISTS, INDEX_MAX};
 
 use super::faulty::faulty_list;
-use super::{block_size, expect, room, sets, Faults, BLOCK_SIZE};
+use super::{block_size, expect, judge, room, sets, Faults, BLOCK_SIZE};
 use crate::call::{Call, Room};
 use crate::joined::Joined;
 use crate::places;
@@ -49,7 +49,8 @@ pub fn two_bad_lists(tally: &mut Tally, variant: usize) {
             let (block_size, out) = (BLOCK_SIZE, Room::OneShort);
             let planned = Call::FilePlan { file, block_size, start, count, out };
             let next = places::asked(&planned, [0, 20, u64::MAX][variant]);
-            for call in [Some(planned), next].into_iter().flatten() {
+            let judged = judge::of(&planned, number as usize);
+            for call in [Some(planned), next, judged].into_iter().flatten() {
                 expect(tally, &call, number);
             }
         }

@@ -2,6 +2,7 @@
 #![allow(dead_code)]
 
 pub mod files;
+pub mod judged;
 pub mod random;
 
 use second::{Record, Refusal, Source};

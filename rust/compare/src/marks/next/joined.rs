@@ -2,10 +2,11 @@
 
 use std::collections::HashSet;
 
-use second::limits::{CHUNK, RECORD};
-use second::{Piece, Record};
+use second::limits::CHUNK;
+use second::Piece;
 
 use super::Asked;
+use crate::marks::shown::shown;
 
 /// Runs of zeros that are many.
 const MANY: usize = 16;
@@ -38,11 +39,6 @@ impl Asked<'_> {
     fn shown_by(&self, piece: &Piece) -> HashSet<Option<usize>> {
         let list = (piece.index - self.index) as usize;
         let position = |place| self.start + place - list as u64 * CHUNK;
-        let range = position(self.at)..position(piece.place + piece.len);
-        let records: Vec<Record> =
-            self.lists[list].chunks(RECORD).map(Record::from_bytes).collect();
-        let edges = records.iter().flat_map(|record| [record.pos, record.end()]);
-        let changes = edges.filter(|edge| range.contains(edge)).chain([range.start]);
-        changes.map(|at| records.iter().rposition(|record| record.covers(at))).collect()
+        shown(self.lists[list], position(self.at)..position(piece.place + piece.len))
     }
 }
