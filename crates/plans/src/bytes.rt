@@ -1,4 +1,6 @@
 // A piece as bytes. The list is read right before each number is written: so the compiler makes one store of each.
+use crate::OBJECT;
+use crate::ZEROS;
 use crate::objects;
 use codec::fixed;
 use resolve::tops;
@@ -21,12 +23,6 @@ ghost use Rattle.plans.specs.Inner.{Shifts, objectBytes};
 ghost use Rattle.plans.specs.Location.{location, locationAt};
 ghost use Rattle.plans.specs.Piece.{pieceSize, pieceOf, encodePiece};
 ghost use Rattle.plans.specs.declared.Location.the-variants.{Hole};
-
-// `RB`, the mark of a piece that lies in an object.
-const OBJECT: u16 = 0x5242;
-
-// `RZ`, the mark of a piece that reads as zeros.
-const ZEROS: u16 = 0x525a;
 
 // Writes the two bytes of a mark.
 fn write_mark(out: &mut [u8], to: usize, mark: u16)

@@ -24,6 +24,12 @@ ghost use Rattle.plans.specs.Inner.{Cut};
 // The bytes of a piece.
 pub const PIECE: usize = 34;
 
+// `RB`, the mark of a piece that lies in an object.
+pub const OBJECT: u16 = 0x5242;
+
+// `RZ`, the mark of a piece that reads as zeros.
+pub const ZEROS: u16 = 0x525a;
+
 // Where a byte lies in the store: nowhere, so that it reads as zero, or in an object at a place in its block.
 pub enum Location {
     Hole,

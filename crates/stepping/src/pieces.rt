@@ -3,7 +3,9 @@ use crate::ends;
 use crate::rooms;
 use blocks::bits_of;
 use plans::Location;
+use plans::OBJECT;
 use plans::Piece;
+use plans::ZEROS;
 use plans::locations;
 use resolve::tops;
 ghost use mathlib.Core.Path.{_≡_};
@@ -17,11 +19,6 @@ ghost use Rattle.resolve.specs.Resolved.{OnTop};
 ghost use Rattle.plans.specs.Location.{locationAt};
 ghost use Rattle.plans.specs.Piece.{pieceOf};
 ghost use Rattle.stepping.specs.Inner.{PieceFrom};
-
-// `RB`, the mark of a piece that lies in an object, and `RZ`, that of a piece that reads as zeros.
-const OBJECT: u16 = 0x5242;
-
-const ZEROS: u16 = 0x525a;
 
 // The piece of so many places of a chunk, by where its first byte lies.
 fn piece_of(index: u32, place: u32, len: u32, first: Location) -> Piece

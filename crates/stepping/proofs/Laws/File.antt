@@ -1,13 +1,13 @@
 -- What `next_file_piece` answers, case by case. Assumes nothing.
 use Prim.Native.Nat.{ℕ, suc, _+_, _-_, _*_, _/_, _%_, _≤_, _<_}
 use native.Mathlib.Omega.{arith}
-use mathlib.Core.Path.{_≡_, refl, sym, ap, _∙_}
+use mathlib.Core.Path.{_≡_, sym, ap, _∙_}
 use mathlib.Core.Bool.{true, false}
-use mathlib.Core.List.{List, [], _∷_, map}
+use mathlib.Core.List.{List, []}
 use lib.ListN.{length, getD, length-map}
-use Rattle.codec.specs.Groups.{groupsFrom}
 use Rattle.slices.specs.Limits.{chunk}
-use Rattle.slices.specs.Record.{records, recordsFrom, count}
+use Rattle.slices.specs.Record.{records}
+use Rattle.joined.proofs.Laws.Numbered.{records-of}
 use Rattle.outcomes.specs.Outcome.{OutcomeOf, refused, done, firstOf}
 use Rattle.outcomes.specs.Answers.{answerOf}
 use Rattle.blocks.specs.Blocks.{blockAllowed}
@@ -68,17 +68,6 @@ module _ (first B : ℕ) (ls : List (List Record)) (start n at : ℕ) where
       → nextStep (siteFrom first B ls start) n at ≡ given piece (at + piece .len)
   step-file piece l h =
       step-piece (siteFrom first B ls start) n at B (listOf ls (start + at)) (first + chunkOf) placeIn last (inside l) same (parts-there l) piece h
-
--- ---- the list of a position
-
-none : records [] ≡ []
-unfolding records recordsFrom count groupsFrom
-none = refl
-
-records-of : (xs : List (List ℕ)) (k : ℕ) → getD (map records xs) k [] ≡ records (getD xs k [])
-records-of [] k = sym none
-records-of (x ∷ xs) ℕ.zero = refl
-records-of (x ∷ xs) (suc k) = records-of xs k
 
 -- ---- the answers
 
