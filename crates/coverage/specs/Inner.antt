@@ -1,0 +1,114 @@
+-- Inner: what the steps of the code find. It serves the contracts of inner functions alone. Assumes nothing.
+use Prim.Native.Nat.{ℕ, zero, suc, _+_, _*_, _/_, _%_, _^_, _<_, _≤_}
+use mathlib.Core.Path.{_≡_}
+use mathlib.Core.Logic.{_≢_}
+use mathlib.Core.Bool.{Bool, _&&_, cond}
+use mathlib.Core.List.{List}
+use lib.Dec.{leb, ltb}
+use lib.ListN.{length, getD}
+use Rattle.runs.specs.Runs.{Run}
+use Rattle.plans.specs.Location.{Site}
+use Rattle.plans.specs.Piece.{pieceSize, decodeRun, piecesIn}
+use Rattle.coverage.specs.Held.{holds, holders}
+
+-- a piece has a length, and lies inside a read of n bytes
+pub record Inside (n : ℕ) (r : Run Site) : Type 0 where
+  pub some : 0 < r .len
+  pub within : r .start + r .len ≤ n
+
+-- the first k pieces of a plan stand one behind the other from place 0 on, and end before `place`
+abbrev pub InOrder : List ℕ → (k place : ℕ) → Type 0
+InOrder plan zero place = place ≡ 0
+InOrder plan (suc k) place = (decodeRun plan (k * pieceSize) .start + decodeRun plan (k * pieceSize) .len ≡ place) × InOrder plan k (decodeRun plan (k * pieceSize) .start)
+
+-- a plan's piece with number i
+abbrev pub pieceAt : List ℕ → ℕ → Run Site
+pieceAt plan i = decodeRun plan (i * pieceSize)
+
+-- how many whole pieces it has
+abbrev pub whole : List ℕ → ℕ
+whole plan = length plan / pieceSize
+
+-- ---- counted
+
+-- 1 where a test is passed
+abbrev pub oneIf : Bool → ℕ
+oneIf b = cond b 1 0
+
+-- how many of the numbers below n pass a test
+unfoldable pub countBelow : (ℕ → Bool) → ℕ → ℕ
+countBelow t zero = 0
+countBelow t (suc n) = countBelow t n + oneIf (t n)
+
+-- place p is one of the `len` places from `start` on
+unfoldable pub spans : (start len p : ℕ) → Bool
+spans start len p = leb start p && ltb p (start + len)
+
+-- ---- pieces by where they begin
+
+-- place s lies in the window from `low` up to `high`
+unfoldable pub between : (low high s : ℕ) → Bool
+between low high s = leb low s && ltb s high
+
+-- how many of the first k pieces begin in the window
+unfoldable pub beginning : List ℕ → (low high k : ℕ) → ℕ
+beginning plan low high k = countBelow (λ (i : ℕ). between low high (pieceAt plan i .start)) k
+
+-- how many of these hold place p
+unfoldable pub heldIn : List ℕ → (low high k p : ℕ) → ℕ
+heldIn plan low high k p = countBelow (λ (i : ℕ). between low high (pieceAt plan i .start) && holds (pieceAt plan i) p) k
+
+-- ---- pieces as keys
+
+-- 2 ^ 32: a key has the place above the length, so that keys in order are pieces in order
+abbrev pub above : ℕ
+above = 4294967296
+
+unfoldable pub keyOf : Run Site → ℕ
+keyOf r = r .start * above + r .len
+
+abbrev pub startAt : List ℕ → ℕ → ℕ
+startAt keys v = getD keys v 0 / above
+
+abbrev pub lenAt : List ℕ → ℕ → ℕ
+lenAt keys v = getD keys v 0 % above
+
+-- how many of the first c keys hold place p
+unfoldable pub keyed : List ℕ → (c p : ℕ) → ℕ
+keyed keys c p = countBelow (λ (v : ℕ). spans (startAt keys v) (lenAt keys v) p) c
+
+-- the first c keys are those of the pieces, among the first k, that begin in the window
+pub record Collected (plan : List ℕ) (low high k : ℕ) (keys : List ℕ) (c : ℕ) : Type 0 where
+  pub many : c ≡ beginning plan low high k
+  pub same : (p : ℕ) → keyed keys c p ≡ heldIn plan low high k p
+  pub each : (v : ℕ) → v < c → (i : ℕ) × (i < k) × (pieceAt plan i .start < high) × (getD keys v 0 ≡ keyOf (pieceAt plan i))
+
+-- a count that tells whether there is room for all of them
+pub record Found (plan : List ℕ) (low high k : ℕ) (keys : List ℕ) (c : ℕ) : Type 0 where
+  pub fit : c ≤ length keys → Collected plan low high k keys c
+  pub over : length keys < c → length keys < beginning plan low high k
+
+-- the window from `low` up to `high`, and the keys of all pieces that begin in it; where it is empty though it was to reach beyond `low`, more than one
+-- piece begins there
+pub record Windowed (plan : List ℕ) (low base n : ℕ) (keys : List ℕ) (high c : ℕ) : Type 0 where
+  pub behind : low ≤ high
+  pub inside : high ≤ n
+  pub room : c ≤ length keys
+  pub crowded : high ≡ low → base ≡ low → 1 < holders (piecesIn plan) low
+  pub collected : low < high → Collected plan low high (whole plan) keys c
+
+-- ---- one behind the other
+
+-- the first c keys are those of pieces that have a length and don't reach far
+abbrev pub Lying : List ℕ → ℕ → Type 0
+Lying keys c = (v : ℕ) → v < c → (0 < lenAt keys v) × (startAt keys v + lenAt keys v ≤ 2 ^ 30)
+
+-- how many hold p: the first c keys, and what fills the places before `cur`
+abbrev pub filled : List ℕ → (c cur p : ℕ) → ℕ
+filled keys c cur p = oneIf (ltb p cur) + keyed keys c p
+
+-- q is the first place that is not filled once; where all keys begin before it, no place behind is filled
+pub record Chained (keys : List ℕ) (c cur q : ℕ) : Type 0 where
+  pub once : (p : ℕ) → p < q → filled keys c cur p ≡ 1
+  pub other : filled keys c cur q ≢ 1
+  pub all : ((v : ℕ) → v < c → startAt keys v < q) → (p : ℕ) → filled keys c cur p ≡ oneIf (ltb p q)
