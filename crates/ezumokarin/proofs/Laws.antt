@@ -27,6 +27,9 @@ use Rattle.ezumokarin.specs.Names.{objectRead, fullRead, chunkRead, plai
 use Rattle.seeking.specs.Seek.{sought}
 use Rattle.seeking.specs.declared.Found.{Found as FoundOf}
 use Rattle.ezumokarin.specs.Seeks.{foundIn, plainSought}
+use Rattle.judging.specs.Calls.{said, judgeAnswer}
+use Rattle.judging.specs.Judge.{Verdict, accepted, piece, byte}
+use Rattle.ezumokarin.specs.Judges.{plainVerdict, judgedPlan, plainJudged}
 use Rattle.stepping.specs.Step.{Step, given, finished}
 use Rattle.stepping.specs.Calls.{saidNext, nextAnswer, saidFileNext, nextFileAnswer}
 use Rattle.ezumokarin.specs.Steps.{plainStep, inFile, stepped, steppedFile, plainNext, plainFileNext}
@@ -128,3 +131,11 @@ pub plain-file-next : (o : OutcomeOf ListRefusal Step) (at : ℕ) → plainFileN
 unfolding plainFileNext answerOf steppedFile
 plain-file-next (refused r) at = refl
 plain-file-next (done s) at = said-file-next s at
+
+-- what is said of a plan, both ways
+pub plain-judged : (o : OutcomeOf ListRefusal Verdict) → plainJudged (judgeAnswer o) ≡ judgedPlan o
+unfolding plainJudged judgedPlan plainVerdict answerOf said
+plain-judged (refused r) = refl
+plain-judged (done accepted) = refl
+plain-judged (done (piece k)) = refl
+plain-judged (done (byte i)) = refl

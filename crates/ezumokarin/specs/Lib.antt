@@ -5,3 +5,4 @@ pub mod Files
 pub mod Seeks
 pub mod Changes
 pub mod Steps
+pub mod Judges

@@ -4,6 +4,7 @@ mod answers;
 mod changes;
 mod compacting;
 mod filing;
+mod judges;
 mod lists;
 mod naming;
 mod reading;
@@ -25,6 +26,17 @@ pub struct Filed {
     pub place: u64,
     pub index: u64,
     pub count: u64,
+}
+
+// What is said of a plan: `verdict` is 1 where it is accepted, 2 where a piece is wrong in itself and 3 where a byte is missing or doubled; `at` is the
+// number of that piece, or the place of that byte, and `index` the chunk index of the refused list.
+#[repr(C)]
+pub struct Judged {
+    pub refusal: u64,
+    pub place: u64,
+    pub index: u64,
+    pub verdict: u64,
+    pub at: u64,
 }
 
 // What comes next in a read of one chunk: `finished` is 1 where nothing is left, and `next` is the next place; the others are the piece.

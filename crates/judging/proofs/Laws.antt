@@ -1,0 +1,25 @@
+-- Laws of the definitions of specs/.
+pub mod Tells
+pub mod First
+pub mod Wrong
+pub mod Exactly
+pub mod Right
+pub mod Fetches
+pub mod Written
+pub mod Held
+pub mod Runs
+pub mod Cuts
+pub mod Spread
+pub mod Calls
+pub mod Ours
+pub mod Chunk
+pub mod Ends
+pub mod Claims
+pub mod Forms
+pub mod Places
+pub mod Leading
+pub mod Sifting
+pub mod Lists
+pub mod Sites
+pub mod Looked
+pub mod Answers
