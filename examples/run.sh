@@ -98,6 +98,18 @@ on at 5767168
 refused 5 at 1 in the list of chunk 3
 TEXT
 
+# By hand, from the requirements: the seven pieces above. In another order they are accepted, and so are they where piece 4, the 1 MiB of slice 22 from place 4 MiB on,
+# is two halves. Without its second half the byte at 4.5 MiB is missing. With piece 0 a second time in its stead byte 0 is doubled, which comes before. A piece of zeros
+# from 2 MiB on that is 2 MiB long has in its second half another chunk than the read; it is piece 2. The damaged list is refused whatever the plan is.
+cat > "$work/judge.expected" <<'TEXT'
+in reverse: accepted
+in halves: accepted
+without the second half: byte 4718592 is in no piece, or in more than one
+with another piece twice: byte 0 is in no piece, or in more than one
+with zeros over the edge: piece 2 is wrong
+with a damaged list: refused 5 at 1 in the list of chunk 3
+TEXT
+
 # shown NAME: README shows these lines too, from where the first of them stands first up to an empty line.
 shown() {
     first=$(head -n 1 "$work/$1.expected")
@@ -108,6 +120,7 @@ shown() {
 }
 shown file
 shown next
+shown judge
 
 # The lines that the page shows, by hand from the requirements.
 sed -n 's/^    //p' "$here/../docs/VIEW-AGAIN.md" > "$work/again.expected"

@@ -1,4 +1,4 @@
-/* A file of which two chunks are read: in file.c by one plan, in next.c piece by piece. */
+/* A file of which two chunks are read: by one plan, piece by piece, and by plans made elsewhere. */
 #include "records.h"
 
 enum { MIB = 1 << 20, BLOCK = 4 * MIB, FIRST = 2, LISTS = 2, RECORDS = 3 };

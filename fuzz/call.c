@@ -25,6 +25,7 @@ static const struct {
     [FILE_PLAN] = {"file_plan", 1, BIT(21) | BIT(8) | LIST | BIT(12)},
     [NEXT_PIECE] = {"next_piece", 0, BIT(7) | BIT(21) | BIT(8) | LIST},
     [NEXT_FILE_PIECE] = {"next_file_piece", 0, BIT(21) | BIT(8) | LIST},
+    [JUDGE_PLAN] = {"judge_plan", 0, BIT(21) | BIT(8) | LIST},
     [COMPACT] = {"compact", 2, BIT(21) | BIT(8) | LIST | BIT(10) | BIT(9) | BIT(12)},
     [ADDED] = {"added", 0, LIST},
     [WRITE_OBJECT_NAME] = {"write_object_name", 1, BIT(13) | BIT(12)},
@@ -61,6 +62,8 @@ _Noreturn void found(const call *call, const char *what)
     print("bytes", call->bytes, call->len);
     if (call->kind == ADDED)
         print("bytes of the older list", call->older, call->older_len);
+    if (call->kind == JUDGE_PLAN)
+        print("bytes of the plan", call->plan, call->plan_len);
     abort();
 }
 
@@ -82,7 +85,7 @@ unsigned outputs(enum kind kind)
 
 int on_file(enum kind kind)
 {
-    return kind == FILE_PLAN || kind == NEXT_FILE_PIECE;
+    return kind == FILE_PLAN || kind == NEXT_FILE_PIECE || kind == JUDGE_PLAN;
 }
 
 static void check_refusal(const call *call, const answer *a)

@@ -17,6 +17,7 @@ enum kind {
     FILE_PLAN,
     NEXT_PIECE,
     NEXT_FILE_PIECE,
+    JUDGE_PLAN,
     COMPACT,
     ADDED,
     WRITE_OBJECT_NAME,
@@ -37,13 +38,14 @@ enum { LIST_RECORDS = 2048, TIDIED_RECORDS = 2048 };
 
 enum { ARGUMENTS = 6, VALUES = 10 };
 
-/* The last number of NEXT_PIECE and NEXT_FILE_PIECE; the ones before it are those of a plan. */
-enum { PLACE = 5 };
+/* The last number of NEXT_PIECE and NEXT_FILE_PIECE; the ones before it are those of a plan. Of
+ * JUDGE_PLAN it is not passed on, and says how its plan is made. */
+enum { PLACE = 5, CHANGES = 5 };
 
 /*
  * Numbers in the order in which the call takes them; bytes are its list, view, volume or text. Of
  * ADDED they are the newer list, and only it has an older one; of a call on a file the joined
- * lists, and only it has their lengths.
+ * lists, and only it has their lengths. Only JUDGE_PLAN is given a plan.
  */
 typedef struct call {
     enum kind kind;
@@ -54,13 +56,15 @@ typedef struct call {
     size_t older_len;
     const uint64_t *lengths;
     size_t lists;
+    const uint8_t *plan;
+    size_t plan_len;
     uint8_t places; /* where inputs and outputs stand: 2 bits each */
     uint8_t salt;
 } call;
 
 /* value: count; or found, segment and its five numbers; or finished, next and the eight of a
- * piece; or plan and list; or rewritten, offset, length; or id, block, length, volume; or inode,
- * index. The index beside it is that of a refused list. */
+ * piece; or verdict and at; or plan and list; or rewritten, offset, length; or id, block, length,
+ * volume; or inode, index. The index beside it is that of a refused list. */
 typedef struct answer {
     uint64_t refusal, place, index, value[VALUES];
     uint8_t *written[2]; /* copies of what was written, malloc'ed exactly */

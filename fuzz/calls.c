@@ -78,6 +78,8 @@ int LLVMFuzzerTestOneInput(const uint8_t *data, size_t size)
         give_older(&call, bytes, head[SHAPE]);
     if (on_file(call.kind))
         give_lengths(&call, bytes, head);
+    if (call.kind == JUDGE_PLAN)
+        give_plan(&call, head[SHAPE]);
 
     answer a = make_ample(&call);
     keep_laws(&call, &a);

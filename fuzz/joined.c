@@ -87,7 +87,8 @@ static void shape_file_numbers(call *call, enum shape shape)
     n[2] = shaped_block_size(n[2]);
     n[3] = near_edge(n[3], call->lists, end);
     n[4] = n[4] % 2 ? n[4] / 2 % (2 * end) : near_edge(n[4] / 2, call->lists, end);
-    n[PLACE] = shaped_place(n[PLACE], file_read(call));
+    if (call->kind == NEXT_FILE_PIECE)
+        n[PLACE] = shaped_place(n[PLACE], file_read(call));
 }
 
 void give_lengths(call *call, uint8_t *bytes, const uint8_t *head)

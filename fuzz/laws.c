@@ -13,6 +13,16 @@ int same(const answer *a, const uint8_t *bytes, size_t len)
     return a->refusal == 0 && a->value[0] == len && (!len || !memcmp(a->written[0], bytes, len));
 }
 
+answer whole_plan(const call *call)
+{
+    enum kind kind = on_file(call->kind) ? FILE_PLAN : READ_PLAN;
+    struct call planning = other(call, kind, call->bytes, call->len);
+    memcpy(planning.number, call->number, PLACE * sizeof *call->number);
+    planning.lengths = call->lengths;
+    planning.lists = call->lists;
+    return make_ample(&planning);
+}
+
 /* Of these a refusal has laws too. */
 static int refused_by_law(const call *call, const answer *a)
 {
@@ -40,6 +50,8 @@ void keep_laws(const call *call, const answer *a)
     case NEXT_PIECE:
     case NEXT_FILE_PIECE:
         return next_law(call, a);
+    case JUDGE_PLAN:
+        return judge_law(call, a);
     case COMPACT:
         return compact_law(call, a);
     case ADDED:

@@ -11,6 +11,7 @@ void tidy_law(const call *call, const answer *a);
 void plan_law(const call *call, const answer *a);
 void file_law(const call *call, const answer *a);
 void next_law(const call *call, const answer *a);
+void judge_law(const call *call, const answer *a);
 void compact_law(const call *call, const answer *a);
 void added_law(const call *call, const answer *a);
 void text_law(const call *call, const answer *a);
@@ -23,6 +24,9 @@ void seek_in(const call *viewing, const answer *view);
 
 /* Another call, with memory lent in the same way; its numbers are 0. */
 call other(const call *call, enum kind kind, const uint8_t *bytes, size_t len);
+
+/* Our plan of the same read, in a room that is large enough. */
+answer whole_plan(const call *call);
 
 /* Whether the answer is that these bytes were written. */
 int same(const answer *a, const uint8_t *bytes, size_t len);

@@ -9,17 +9,6 @@ enum { STEPS = 24 };
 /* Where these stand among the values; the piece stands behind them. */
 enum { FINISHED, NEXT };
 
-/* The plan of the same read, in a room that is large enough. */
-static answer whole_plan(const call *call)
-{
-    enum kind kind = on_file(call->kind) ? FILE_PLAN : READ_PLAN;
-    struct call planning = other(call, kind, call->bytes, call->len);
-    memcpy(planning.number, call->number, PLACE * sizeof *call->number);
-    planning.lengths = call->lengths;
-    planning.lists = call->lists;
-    return make_ample(&planning);
-}
-
 /* The piece that has this byte of the read, or NULL behind the last one. */
 static const uint8_t *piece_over(const answer *plan, uint64_t at)
 {

@@ -39,6 +39,12 @@ static answer stepped_file(ezk_file_next a)
                     .value = STEPPED(a)};
 }
 
+static answer judged(ezk_judged a)
+{
+    return (answer){
+        .refusal = a.refusal, .place = a.place, .index = a.index, .value = {a.verdict, a.at}};
+}
+
 static answer compacted(ezk_compacted a)
 {
     return (answer){.refusal = a.refusal, .place = a.place, .value = {a.plan, a.list}};
@@ -135,6 +141,18 @@ static answer pass_next(const call *call, const lent *list)
         ezk_next_piece(list->bytes, list->len, n[0], n[1], n[2], n[3], n[4], n[PLACE]));
 }
 
+static answer pass_plan(const call *call, const lent *lists, const uint64_t *lengths)
+{
+    const uint64_t *n = call->number;
+    lent plan = lend(1, call->places / PLACES % PLACES, (uint8_t)(call->salt + 1), call->plan,
+                     call->plan_len);
+    answer a = judged(ezk_judge_plan(lists->bytes, lists->len, lengths, call->lists, n[0], n[1],
+                                     n[2], n[3], n[4], plan.bytes, plan.len));
+    must(call, !changed(&plan, 0), "a byte in or beside the plan changed");
+    give_back(&plan);
+    return a;
+}
+
 /* The lengths stand where numbers may: aligned, as the salt then says. */
 static answer pass_file(const call *call, const lent *lists, const lent *out)
 {
@@ -146,6 +164,8 @@ static answer pass_file(const call *call, const lent *lists, const lent *out)
     if (call->kind == FILE_PLAN)
         a = filed(ezk_file_plan(lists->bytes, lists->len, numbers, call->lists, n[0], n[1], n[2],
                                 n[3], n[4], out->bytes, out->len));
+    else if (call->kind == JUDGE_PLAN)
+        a = pass_plan(call, lists, numbers);
     else
         a = stepped_file(ezk_next_file_piece(lists->bytes, lists->len, numbers, call->lists, n[0],
                                              n[1], n[2], n[3], n[4], n[PLACE]));
@@ -159,6 +179,7 @@ answer pass(const call *call, const lent *in, const lent out[2])
     switch (call->kind) {
     case FILE_PLAN:
     case NEXT_FILE_PIECE:
+    case JUDGE_PLAN:
         return pass_file(call, in, out);
     case NEXT_PIECE:
         return pass_next(call, in);

@@ -154,6 +154,7 @@ uint64_t expected_refusal(const call *call, uint64_t *place, uint64_t *index)
         return read_refusal(call, place);
     case FILE_PLAN:
     case NEXT_FILE_PIECE:
+    case JUDGE_PLAN:
         return file_refusal(call, place, index);
     case COMPACT:
         return compact_refusal(call, place);

@@ -54,11 +54,14 @@ static void seed(enum kind kind, unsigned shape, const uint64_t *number, const v
 
 #define WITH(...) ((const uint64_t[ARGUMENTS]){__VA_ARGS__})
 
-/* One list of chunk 1; or the records divided into three lists, or four. */
+/* One list of chunk 1; or the records divided into three lists, or four. As it is, a judged plan
+ * is empty. */
 static void file_seeds(enum kind kind, unsigned shape, const uint8_t *list, size_t len)
 {
     static uint8_t bytes[8 + LIST_MAX];
-    const uint64_t *number = WITH(1, 4ull * EZK_CHUNK, BLOCK, 0, 2 * EZK_CHUNK, 8 * MIB + 1);
+    uint64_t last = kind == JUDGE_PLAN && shape % SHAPES == AS_IS ? 0 : 8 * MIB + 1;
+    uint64_t first = shape % SHAPES == AS_IS ? 1 : 8 + 3; /* its shape is 1 */
+    const uint64_t *number = WITH(first, 4ull * EZK_CHUNK, BLOCK, 0, 2 * EZK_CHUNK, last);
     memcpy(put(bytes, len, 8), list, len);
     if (shape % SHAPES == AS_IS)
         seed_joined(kind, shape, (joined){1, 0, 0}, number, bytes, 8 + len);
@@ -78,6 +81,7 @@ static void list_seeds(unsigned shape, const uint8_t *list, size_t len)
     seed(ADDED, shape, WITH(EZK_RECORD), list, len);
     file_seeds(FILE_PLAN, shape, list, len);
     file_seeds(NEXT_FILE_PIECE, shape, list, len);
+    file_seeds(JUDGE_PLAN, shape, list, len);
 }
 
 static size_t list_of(uint8_t *list, const record *records, size_t count)
@@ -150,9 +154,13 @@ static void places(const uint8_t *list, size_t len)
     seed(NEXT_PIECE, AS_IS, WITH(1, EZK_CHUNK, BLOCK, 0, 1, 1), list, len - 1);        /* 1 */
 }
 
-/* Lengths and lists as they are, for the whole plan and for one piece of it. */
-static void both_on_file(unsigned lists, const uint64_t *number, const void *bytes, size_t len)
+/* Lengths and lists as they are, for the whole plan, for one piece of it, and beside no plan. */
+static void all_on_file(unsigned lists, const uint64_t *number, const void *bytes, size_t len)
 {
+    uint64_t without[ARGUMENTS];
+    memcpy(without, number, sizeof without);
+    without[CHANGES] = 0;
+    seed_joined(JUDGE_PLAN, AS_IS, (joined){lists, 0, 0}, without, bytes, len);
     seed_joined(FILE_PLAN, AS_IS, (joined){lists, 0, 0}, number, bytes, len);
     seed_joined(NEXT_FILE_PIECE, AS_IS, (joined){lists, 0, 0}, number, bytes, len);
 }
@@ -163,7 +171,7 @@ static void two_lists(uint64_t first_len, const uint64_t *number, const record *
 {
     uint8_t bytes[2 * 8 + 4 * EZK_RECORD], *lists = put(bytes, first_len, 8);
     size_t len = list_of(put(lists, count * EZK_RECORD - first_len, 8), records, count);
-    both_on_file(2, number, bytes, 16 + len);
+    all_on_file(2, number, bytes, 16 + len);
 }
 
 /* A read over the edge of chunks 2 and 3, behind which the same object goes on. */
@@ -192,7 +200,66 @@ static void files(void)
     for (size_t i = 0; i < sizeof at / sizeof *at; i++)
         two_lists(EZK_RECORD, WITH(2, UINT64_MAX, BLOCK, EZK_CHUNK - 10, 30, at[i]), sound, 3);
     for (unsigned lists = 0; lists <= LISTS_MAX; lists++) /* 21 for none, and above 16 */
-        both_on_file(lists, WITH(0, UINT64_MAX, 65536, 1, UINT64_MAX), zeros, 8 * lists);
+        all_on_file(lists, WITH(0, UINT64_MAX, 65536, 1, UINT64_MAX), zeros, 8 * lists);
+}
+
+static uint8_t *put_piece(uint8_t *to, piece p)
+{
+    to = put(put(put(to, p.object ? 0x5242 : 0x525a, 2), p.index, 4), p.place, 4);
+    to = put(put(put(to, p.id, 8), p.block, 4), p.block_len, 4);
+    return put(put(to, p.in_block, 4), p.len, 4);
+}
+
+/* The read over the edge of chunks 2 and 3, with a plan of these of its four pieces, of whose last
+ * one some bytes are cut off. */
+static void judged_seed(const char *numbers, size_t cut)
+{
+    const record lists[] = {{EZK_CHUNK - 8, 7, 16, 0, 8}, {0, 7, 16, 8, 8}, {8, 0, 0, 0, 4}};
+    const piece ours[] = {{0, 2, 0, 0, 0, 0, 0, 2},
+                          {1, 2, 2, 7, 0, 16, 0, 8},
+                          {1, 3, 10, 7, 0, 16, 8, 8},
+                          {0, 3, 18, 0, 0, 0, 0, 12}};
+    uint8_t bytes[2 * 8 + 3 * EZK_RECORD + 8 * EZK_PIECE], *to = put(bytes, EZK_RECORD, 8);
+    to = put(to, 2 * EZK_RECORD, 8);
+    to += list_of(to, lists, 3);
+    for (size_t i = 0; numbers[i]; i++)
+        to = put_piece(to, ours[numbers[i] - '0']);
+    uint64_t plan = strlen(numbers) * EZK_PIECE - cut;
+    const uint64_t *number = WITH(2, 4ull * EZK_CHUNK, BLOCK, EZK_CHUNK - 10, 30, plan);
+    seed_joined(JUDGE_PLAN, AS_IS, (joined){2, 0, 0}, number, bytes, (size_t)(to - bytes) - cut);
+}
+
+/* Our plan of a read about the edge of two chunks, or of three whole ones, changed in each way. */
+static void judged(void)
+{
+    const record near[] = {
+        {0, 1, 64, 0, 60}, {9, 2, 64, 5, 20}, {30, 0, 0, 0, 7}, {3, 3, 64, 1, 2}};
+    const char *const plans[] = {"0123", "3210", "013", "01123", "1230", "0", "00"};
+    const uint64_t *number;
+    uint8_t list[4 * EZK_RECORD];
+    size_t len = list_of(list, near, 4);
+    for (size_t i = 0; i < sizeof plans / sizeof *plans; i++)
+        for (size_t cut = 0; cut < EZK_PIECE; cut += cut ? 32 : 1)
+            judged_seed(plans[i], cut);
+    for (uint64_t change = 0; change < 64; change++) {
+        number = WITH(8 * 5 + 3, UINT64_MAX - 3, 1, 3, 2 * 250 + 1, 1 + 4 * change);
+        seed_joined(JUDGE_PLAN, SMALL, (joined){3, 0, 0x222}, number, list, len);
+    }
+    for (uint64_t change = 0; change < 8; change++) {
+        number = WITH(8 * 5 + 3, UINT64_MAX - 3, 1, 0, 12ull * EZK_CHUNK, 1 + 4 * change);
+        seed_joined(JUDGE_PLAN, MANY + SHAPES * 40, (joined){3, 0, 0x132}, number, list, len);
+    }
+}
+
+/* Sixteen chunks of one whole slice each: 1,024 objects a chunk. */
+static void most_pieces(void)
+{
+    uint8_t bytes[EZK_LISTS * (8 + EZK_RECORD)], *to = bytes;
+    for (int k = 0; k < EZK_LISTS; k++)
+        to = put(to, EZK_RECORD, 8);
+    for (uint64_t k = 0; k < EZK_LISTS; k++)
+        to = put_record(to, (record){0, k + 1, EZK_CHUNK, 0, EZK_CHUNK});
+    all_on_file(EZK_LISTS, WITH(0, UINT64_MAX, 65536, 0, UINT64_MAX), bytes, sizeof bytes);
 }
 
 static void small_lists(void)
@@ -349,6 +416,8 @@ int main(int argc, char **argv)
     single_records();
     small_lists();
     files();
+    judged();
+    most_pieces();
     views();
     pairs();
     combs();

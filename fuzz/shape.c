@@ -189,6 +189,7 @@ void give_shape(call *call, uint8_t *bytes, uint8_t choice)
     case FILE_PLAN:
     case NEXT_PIECE:
     case NEXT_FILE_PIECE:
+    case JUDGE_PLAN:
     case COMPACT:
     case ADDED:
         shape_list(call, bytes, shape, choice / SHAPES * RECORDS_MAX / (255 / SHAPES));

@@ -15,6 +15,9 @@ enum { NEAR = 64 };
 /* The bytes of the longest view. */
 enum { VIEW_MAX = (2 * LIST_RECORDS + 1) * EZK_RECORD };
 
+/* The bytes of the longest plan that is judged: as many pieces as our longest, and some more. */
+enum { PLAN_MAX = EZK_PIECE * (4 * RECORDS_MAX + EZK_LISTS * (2 + EZK_CHUNK / 65536) + 8) };
+
 /* Gives the call the shape that the choice stands for. `bytes`, of VIEW_MAX, are its bytes. */
 void give_shape(call *call, uint8_t *bytes, uint8_t choice);
 
@@ -24,6 +27,9 @@ void give_older(call *call, uint8_t *bytes, uint8_t choice);
 /* Gives a call on a file, whose bytes have their shape, the lengths of its lists, and its
  * numbers their shape. `head` is the input's. */
 void give_lengths(call *call, uint8_t *bytes, const uint8_t *head);
+
+/* Gives a call of JUDGE_PLAN, whose lists and numbers have their shape, a plan. */
+void give_plan(call *call, uint8_t choice);
 
 /* 2^15 to 2^25: one power too many below, and one above. */
 uint64_t shaped_block_size(uint64_t number);

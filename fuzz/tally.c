@@ -8,6 +8,11 @@ enum { SIZES = 32 };
 
 static uint64_t made[KINDS][REFUSALS];
 
+/* By verdict; none is 0. */
+enum { VERDICTS = EZK_WRONG_BYTE + 1 };
+
+static uint64_t judged[VERDICTS];
+
 /*
  * The archive is a plain object without coverage. libFuzzer takes these counters as
  * coverage instead: which answer each call gave, and how long or at which place, by
@@ -15,6 +20,10 @@ static uint64_t made[KINDS][REFUSALS];
  */
 __attribute__((
     section("__libfuzzer_extra_counters"))) static uint8_t reached[KINDS][REFUSALS][2][SIZES];
+
+/* The same for what is said of plans. */
+__attribute__((
+    section("__libfuzzer_extra_counters"))) static uint8_t reached_verdict[VERDICTS][SIZES];
 
 static unsigned power_of_two(uint64_t n)
 {
@@ -24,12 +33,22 @@ static unsigned power_of_two(uint64_t n)
     return bits < SIZES ? bits : SIZES - 1;
 }
 
+static void tally_verdict(uint64_t verdict, uint64_t at)
+{
+    if (verdict >= VERDICTS)
+        return;
+    judged[verdict]++;
+    reached_verdict[verdict][power_of_two(at)] = 1;
+}
+
 void tally(enum kind kind, const answer *a)
 {
     made[kind][a->refusal]++;
     uint8_t(*sizes)[SIZES] = reached[kind][a->refusal];
     sizes[0][power_of_two(a->refusal ? a->place : a->value[0])] = 1;
     sizes[1][power_of_two(a->value[1])] = 1;
+    if (kind == JUDGE_PLAN && !a->refusal)
+        tally_verdict(a->value[0], a->value[1]);
 }
 
 void print_tally(void)
@@ -43,6 +62,8 @@ void print_tally(void)
         for (int refusal = 1; refusal < REFUSALS; refusal++)
             printf("%9" PRIu64, made[kind][refusal]);
     }
+    printf("\nplans accepted %" PRIu64 ", with a wrong piece %" PRIu64 ", a wrong byte %" PRIu64,
+           judged[EZK_ACCEPTED], judged[EZK_WRONG_PIECE], judged[EZK_WRONG_BYTE]);
     printf("\ncalls made:");
     for (int kind = 0; kind < KINDS; kind++) {
         uint64_t calls = 0;
