@@ -1,5 +1,6 @@
 //! The archive's plan across the chunks of a file, and the plans of the same chunks one by one.
 
+pub mod judge;
 pub mod pieces;
 
 use ezumokarin::sys::ezk_file_plan;

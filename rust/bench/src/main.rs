@@ -5,6 +5,7 @@
 //! many rounds in which the programs take turns, so that ratios hold on a busy machine too.
 
 mod clock;
+mod elsewhere;
 mod files;
 mod history;
 mod library;
@@ -15,6 +16,7 @@ mod pieces;
 mod record;
 mod report;
 mod shapes;
+mod shuffle;
 #[cfg(test)]
 mod tests;
 mod timed;

@@ -1,4 +1,4 @@
-//! Records as bytes, at fixed widths, and the numbers of the format.
+//! Records and pieces as bytes, at fixed widths, and the numbers of the format.
 
 pub const RECORD: usize = 24;
 pub const PIECE: usize = 34;
@@ -7,6 +7,7 @@ pub const LIST_RECORDS: usize = 2_048;
 pub const TIDIED_RECORDS: usize = 2_048;
 
 pub type RecordBytes = [u8; RECORD];
+pub type PieceBytes = [u8; PIECE];
 
 #[derive(Clone, Copy, Debug, PartialEq, Eq)]
 pub struct Record {
@@ -18,13 +19,24 @@ pub struct Record {
 }
 
 #[inline]
-pub fn four(bytes: &RecordBytes, at: usize) -> u32 {
+pub fn four<const N: usize>(bytes: &[u8; N], at: usize) -> u32 {
     u32::from_be_bytes([bytes[at], bytes[at + 1], bytes[at + 2], bytes[at + 3]])
 }
 
 #[inline]
 pub fn id(bytes: &RecordBytes) -> u64 {
     u64::from(four(bytes, 4)) << 32 | u64::from(four(bytes, 8))
+}
+
+/// Where a piece begins in the read.
+#[inline]
+pub fn place(piece: &PieceBytes) -> u32 {
+    four(piece, 6)
+}
+
+#[inline]
+pub fn len(piece: &PieceBytes) -> u32 {
+    four(piece, 30)
 }
 
 impl Record {

@@ -1,6 +1,7 @@
 //! The programs that the archive is timed against must be right themselves.
 
 mod files;
+mod judged;
 mod next;
 mod pairs;
 

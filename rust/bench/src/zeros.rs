@@ -1,6 +1,7 @@
 //! Lists of zeros with a hole behind each: the plan of the whole chunk is one piece.
 
 use crate::record::{Record, CHUNK};
+use crate::shuffle::shuffle;
 use rng::Rng;
 
 /// How the records stand in the list.
@@ -20,10 +21,4 @@ fn list(turn: &str, records: u32, rng: &mut Rng) -> Vec<u8> {
     }
     let record = |pos| Record { pos, id: 0, size: 0, off: 0, len };
     positions.into_iter().flat_map(|pos| record(pos).to_bytes()).collect()
-}
-
-fn shuffle(positions: &mut [u32], rng: &mut Rng) {
-    for i in (1..positions.len()).rev() {
-        positions.swap(i, rng.below(i as u64 + 1) as usize);
-    }
 }

@@ -3,8 +3,8 @@
 use crate::report::spread::{select, Spread};
 use crate::report::{number, table as table_of, thousands};
 use crate::timed::{
-    added, comparison, files, Row, Who, ADDED, BEGINS, COMPACT, FILES, JOINED, NEXT, PLAN, SIZES,
-    SMALL_PLAN, TIDY, VIEW,
+    added, comparison, files, judged, Row, Who, ADDED, BEGINS, COMPACT, FILES, JOINED, JUDGED,
+    NEXT, PLAN, SIZES, SMALL_PLAN, TIDY, VIEW,
 };
 
 struct Limit {
@@ -60,6 +60,7 @@ fn limits(rows: &[Row]) -> Vec<Limit> {
     limits.extend(FILES.map(|call| file_fits(rows, call)));
     limits.push(over(rows, NEXT, &[200, 2_000], (Who::Best, "best Rust"), 1.3));
     limits.push(over(rows, JOINED, &SIZES, (Who::Plan, "read plan"), 1.3));
+    limits.extend(judged(rows));
     let checks = (Who::Checks, "two checks");
     limits.extend(ADDED.map(|call| over(rows, call, &added::LENGTHS, checks, 1.2)));
     limits.push(over(rows, BEGINS, &comparison::LENGTHS, (Who::Best, "`starts_with`"), 4.0));
@@ -102,6 +103,25 @@ fn growth(rows: &[Row], call: &str) -> Limit {
         Some(row.time(Who::Now)? / fewer.time(Who::Now)?)
     });
     Limit { what: format!("{call}: 2,000 records / 200"), most: 12.0, noise: 1.1, worst }
+}
+
+/// Pieces in another order over the same in order, and many pieces in order over few.
+fn judged(rows: &[Row]) -> Vec<Limit> {
+    let records = [judged::RECORDS];
+    let [[few, ..], [many, ..]] = JUDGED;
+    let others = JUDGED.into_iter().flat_map(|[_, others @ ..]| others);
+    let mut limits: Vec<Limit> = others
+        .map(|call| {
+            let worst = worst(rows, call, &records, |row| row.ratio(Who::Now, Who::InOrder));
+            Limit { what: format!("{call} / in order"), most: 100.0, noise: 1.1, worst }
+        })
+        .collect();
+    let worst = worst(rows, many, &records, |row| {
+        let fewer = select(rows, few, row.records).find(|other| other.shape == row.shape)?;
+        Some(row.time(Who::Now)? / fewer.time(Who::Now)?)
+    });
+    limits.push(Limit { what: format!("{many} / 1,000"), most: 120.0, noise: 1.1, worst });
+    limits
 }
 
 /// The worst of a figure, with its shape and length.

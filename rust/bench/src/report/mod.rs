@@ -3,6 +3,7 @@
 mod calls;
 mod files;
 mod history;
+mod judged;
 mod limits;
 mod others;
 mod picture;
@@ -24,6 +25,8 @@ pub fn files(rows: &[Row]) -> Vec<(&'static str, String)> {
         ("joined.md", pieces::joined(rows)),
         ("one-by-one.md", pieces::one_by_one(rows)),
         ("file-pieces.md", pieces::of_files(rows)),
+        ("judged.md", judged::many(rows)),
+        ("judged-few.md", judged::few(rows)),
         ("find.md", others::find(rows)),
         ("check.md", others::check(rows)),
         ("added.md", history::added(rows)),

@@ -7,6 +7,8 @@ pub mod comparison;
 pub mod file_next;
 pub mod files;
 mod joined;
+pub mod judged;
+pub mod judged_few;
 pub mod next;
 pub mod one_by_one;
 mod row;
@@ -38,6 +40,20 @@ pub const NEXT: &str = "next piece";
 pub const JOINED: &str = "next piece, joined";
 pub const ONE_BY_ONE: &str = "pieces one by one";
 pub const FILE_NEXT: &str = "next piece of 16 chunks";
+/// `ezk_judge_plan`, by pieces and order; and of our own plans of short lists.
+pub const JUDGED: [[&str; 3]; 2] = [
+    [
+        "judged plan of 1,000 pieces, in order",
+        "judged plan of 1,000 pieces, reversed",
+        "judged plan of 1,000 pieces, shuffled",
+    ],
+    [
+        "judged plan of 100,000 pieces, in order",
+        "judged plan of 100,000 pieces, reversed",
+        "judged plan of 100,000 pieces, shuffled",
+    ],
+];
+pub const JUDGED_FEW: [&str; 2] = ["judged short plan, in order", "judged short plan, reversed"];
 pub const FIND: &str = "find";
 pub const CHECK: &str = "check";
 /// `ezk_added`, by how the newer list came from the older one.
@@ -59,6 +75,8 @@ pub fn all() -> Result<Vec<Row>, String> {
     rows.extend(joined::rows()?);
     rows.extend(one_by_one::rows()?);
     rows.extend(file_next::rows()?);
+    rows.extend(judged::rows()?);
+    rows.extend(judged_few::rows()?);
     rows.extend(seek::rows()?);
     rows.extend(check::rows()?);
     rows.extend(added::rows()?);

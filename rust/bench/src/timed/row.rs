@@ -23,8 +23,10 @@ pub enum Who {
     Six,
     /// The checks of the same lists alone.
     Checks,
-    /// The read plan of the whole chunk.
+    /// The plan of the whole read.
     Plan,
+    /// The archive, on the same pieces in order.
+    InOrder,
     /// Calls on single chunks, one after the other, in the stead of one on a file.
     Singles,
 }

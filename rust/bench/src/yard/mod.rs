@@ -4,19 +4,23 @@
 //! write: the records are sorted by position (`order`), a sweep over the chunk keeps the open ones
 //! in a set of bits (`open`, `sweep`), and views, plans and compaction are written on the way.
 //! `plain` is that sweep without its last refinements. The next piece of a read is found by a scan
-//! (`scan`, `next`).
+//! (`scan`, `next`). A plan made elsewhere is set beside our own, in order of place (`judge`, `pass`,
+//! `sites`).
 
 pub mod check;
 pub mod compact;
+pub mod judge;
 pub mod next;
 mod open;
 mod order;
+mod pass;
 pub mod plain;
 pub mod plan;
 mod room;
 mod runs;
 mod scan;
 pub mod seek;
+mod sites;
 mod sizes;
 mod source;
 mod sweep;
