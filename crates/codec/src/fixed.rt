@@ -5,6 +5,21 @@ ghost use lib.ListN.{length};
 ghost use Rattle.codec.specs.Fixed.{bigEndian, numberAt};
 ghost use Rattle.codec.specs.Splice.{splice};
 
+// The number that two bytes make.
+fn pair(a: u8, b: u8) -> u16
+    ensures { λ r. ⌜ r ≡ a * 256 + b ⌝ }
+{
+    a as u16 * 256 + b as u16
+}
+
+// The number that the two bytes from `at` make.
+pub fn read_be16(s: &[u8], at: usize) -> u16
+    requires { ⌜ at + 2 ≤ length (now s) ⌝ }
+    ensures { λ r. ⌜ r ≡ numberAt (now (s .entry)) at 2 ⌝ }
+{
+    pair(s[at], s[at + 1])
+}
+
 // The number that four bytes make.
 fn join(a: u8, b: u8, c: u8, d: u8) -> u32
     ensures { λ r. ⌜ r ≡ ((a * 256 + b) * 256 + c) * 256 + d ⌝ }

@@ -16,14 +16,14 @@ pub record Inside (n : ℕ) (r : Run Site) : Type 0 where
   pub some : 0 < r .len
   pub within : r .start + r .len ≤ n
 
+-- a plan's piece with number i
+abbrev pub runAt : List ℕ → ℕ → Run Site
+runAt plan i = decodeRun plan (i * pieceSize)
+
 -- the first k pieces of a plan stand one behind the other from place 0 on, and end before `place`
 abbrev pub InOrder : List ℕ → (k place : ℕ) → Type 0
 InOrder plan zero place = place ≡ 0
-InOrder plan (suc k) place = (decodeRun plan (k * pieceSize) .start + decodeRun plan (k * pieceSize) .len ≡ place) × InOrder plan k (decodeRun plan (k * pieceSize) .start)
-
--- a plan's piece with number i
-abbrev pub pieceAt : List ℕ → ℕ → Run Site
-pieceAt plan i = decodeRun plan (i * pieceSize)
+InOrder plan (suc k) place = (runAt plan k .start + runAt plan k .len ≡ place) × InOrder plan k (runAt plan k .start)
 
 -- how many whole pieces it has
 abbrev pub whole : List ℕ → ℕ
@@ -52,11 +52,11 @@ between low high s = leb low s && ltb s high
 
 -- how many of the first k pieces begin in the window
 unfoldable pub beginning : List ℕ → (low high k : ℕ) → ℕ
-beginning plan low high k = countBelow (λ (i : ℕ). between low high (pieceAt plan i .start)) k
+beginning plan low high k = countBelow (λ (i : ℕ). between low high (runAt plan i .start)) k
 
 -- how many of these hold place p
 unfoldable pub heldIn : List ℕ → (low high k p : ℕ) → ℕ
-heldIn plan low high k p = countBelow (λ (i : ℕ). between low high (pieceAt plan i .start) && holds (pieceAt plan i) p) k
+heldIn plan low high k p = countBelow (λ (i : ℕ). between low high (runAt plan i .start) && holds (runAt plan i) p) k
 
 -- ---- pieces as keys
 
@@ -81,10 +81,10 @@ keyed keys c p = countBelow (λ (v : ℕ). spans (startAt keys v) (lenAt keys v)
 pub record Collected (plan : List ℕ) (low high k : ℕ) (keys : List ℕ) (c : ℕ) : Type 0 where
   pub many : c ≡ beginning plan low high k
   pub same : (p : ℕ) → keyed keys c p ≡ heldIn plan low high k p
-  pub each : (v : ℕ) → v < c → (i : ℕ) × (i < k) × (pieceAt plan i .start < high) × (getD keys v 0 ≡ keyOf (pieceAt plan i))
+  pub each : (v : ℕ) → v < c → (i : ℕ) × (i < k) × (runAt plan i .start < high) × (getD keys v 0 ≡ keyOf (runAt plan i))
 
 -- a count that tells whether there is room for all of them
-pub record Found (plan : List ℕ) (low high k : ℕ) (keys : List ℕ) (c : ℕ) : Type 0 where
+pub record Counted (plan : List ℕ) (low high k : ℕ) (keys : List ℕ) (c : ℕ) : Type 0 where
   pub fit : c ≤ length keys → Collected plan low high k keys c
   pub over : length keys < c → length keys < beginning plan low high k
 

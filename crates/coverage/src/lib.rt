@@ -4,7 +4,7 @@ mod keys;
 mod windows;
 
 use plans::PIECE;
-use resolve::order::sort;
+use sorting::sort;
 ghost use mathlib.Core.Path.{_≡_};
 ghost use Prim.Native.Nat.{_≤_, _<_, _^_};
 ghost use lib.ListN.{length};

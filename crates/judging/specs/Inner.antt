@@ -9,8 +9,9 @@ use lib.ListN.{length, getD}
 use Rattle.slices.specs.Limits.{chunk}
 use Rattle.slices.specs.Record.{records}
 use Rattle.coverage.specs.Inner.{InOrder}
+use Rattle.coverage.specs.Held.{firstNotOnce}
 use Rattle.plans.specs.Location.{locationAt, onward}
-use Rattle.plans.specs.Piece.{pieceSize, decodePiece, locationOf}
+use Rattle.plans.specs.Piece.{pieceSize, decodePiece, locationOf, piecesIn}
 use Rattle.judging.specs.Judge.{unknownMark, numberSet}
 use Rattle.slices.specs.declared.Record.{Record}
 use Rattle.plans.specs.declared.Location.{Location}
@@ -99,12 +100,19 @@ pub record Sifted (first from n B : ℕ) (ls : List (List ℕ)) (plan : List ℕ
 
 -- r is the number of the first whole piece that is wrong in itself, or as many as there are: of the pieces below `limit`, which is the first that is not
 -- formed, it is the first that does not lie in its list where it says
-pub record Found (first from n B : ℕ) (ls : List (List ℕ)) (plan : List ℕ) (r : ℕ) : Type 0 where
+pub record WrongFound (first from n B : ℕ) (ls : List (List ℕ)) (plan : List ℕ) (r : ℕ) : Type 0 where
   pub limit : ℕ
   pub within : limit ≤ length plan / pieceSize
   pub form : Formed first from n plan limit
   pub next : limit < length plan / pieceSize → formed first from n (pieceAt plan limit) ≡ false
   pub sifted : Sifted first from n B ls plan limit r
+
+-- what one way of working finds: of the pieces at the front, those that stand in order; or the first whole piece that is wrong in itself, and, where there is
+-- neither such a piece nor a rest, the first place that is not held once
+abbrev pub Worked : (lead : Bool) (first from n B : ℕ) → List (List ℕ) → List ℕ → (number place : ℕ) → Type 0
+Worked lead first from n B ls plan number place =
+    (lead ≡ true → Led first from n B ls plan number place)
+    × (lead ≡ false → WrongFound first from n B ls plan number × (length plan ≤ number * pieceSize → place ≡ firstNotOnce (piecesIn plan) n))
 
 -- what is said of the first place that is not held once
 unfoldable pub saidOf : (at n : ℕ) → Judged

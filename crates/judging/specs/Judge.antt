@@ -1,6 +1,6 @@
 -- Plans made elsewhere (paper 02, L10): which piece of a plan is wrong in itself, and what is said of the plan. Here `f i` is where byte i of the read
 -- lies, by what the cover gives, and n is how many bytes the read has. Assumes nothing.
-use Prim.Native.Nat.{ℕ, _+_, _*_, _/_, _<_, _≤_}
+use Prim.Native.Nat.{ℕ, _+_, _-_, _*_, _/_, _<_, _≤_}
 use mathlib.Core.Path.{_≡_}
 use mathlib.Core.Logic.{_≢_, _⊎_}
 use mathlib.Core.Bool.{Bool, true, false, _&&_, _||_, cond, not}
@@ -77,7 +77,7 @@ wrongAt f n plan k = ltb (length plan) (k * pieceSize + pieceSize) || wrongPiece
 
 -- how many pieces a plan has, with one that is cut short
 unfoldable pub pieceCount : List ℕ → ℕ
-pieceCount plan = (length plan + 33) / pieceSize
+pieceCount plan = (length plan + (pieceSize - 1)) / pieceSize
 
 -- the first that is wrong in itself; as many as there are where none is
 unfoldable pub firstWrong : (ℕ → Site) → ℕ → List ℕ → ℕ

@@ -6,34 +6,19 @@ use plans::ZEROS;
 use slices::CHUNK;
 ghost use mathlib.Core.Path.{_≡_};
 ghost use mathlib.Core.Bool.{not, _&&_};
-ghost use Prim.Native.Nat.{_+_, _*_, _^_, _≤_};
+ghost use Prim.Native.Nat.{_+_, _^_, _≤_};
 ghost use lib.Dec.{eqb};
 ghost use lib.ListN.{length};
-ghost use Rattle.codec.specs.Fixed.{numberAt};
 ghost use Rattle.plans.specs.Piece.{pieceSize, decodePiece};
 ghost use Rattle.judging.specs.Judge.{unknownMark, numberSet};
 ghost use Rattle.judging.specs.Inner.{formed};
-
-fn join(a: u8, b: u8) -> u16
-    ensures { λ r. ⌜ r ≡ a * 256 + b ⌝ }
-{
-    a as u16 * 256 + b as u16
-}
-
-// The mark of a piece.
-fn read_mark(plan: &[u8], at: usize) -> u16
-    requires { ⌜ at + 2 ≤ length (now plan) ⌝ }
-    ensures { λ r. ⌜ r ≡ numberAt (now (plan .entry)) at 2 ⌝ }
-{
-    join(plan[at], plan[at + 1])
-}
 
 // The piece whose bytes start at `at`.
 pub(crate) fn read_piece(plan: &[u8], at: usize) -> Piece
     requires { ⌜ at + pieceSize ≤ length (now plan) ⌝ }
     ensures { λ r. ⌜ r ≡ decodePiece (now (plan .entry)) at ⌝ }
 {
-    let mark = read_mark(plan, at);
+    let mark = fixed::read_be16(plan, at);
     let index = fixed::read_be32(plan, at + 2);
     let place = fixed::read_be32(plan, at + 6);
     let id = fixed::read_be64(plan, at + 10);

@@ -5,19 +5,17 @@ use crate::sifting;
 use plans::PIECE;
 use slices::RECORD;
 ghost use mathlib.Core.Path.{_≡_};
-ghost use mathlib.Core.Bool.{true, false};
+ghost use mathlib.Core.Bool.{true};
 ghost use Prim.Native.Nat.{_+_, _*_, _^_, _<_, _≤_};
 ghost use lib.ListN.{length};
 ghost use Rattle.codec.specs.All.{All};
 ghost use Rattle.slices.specs.Accepts.{Accepts};
 ghost use Rattle.slices.specs.Limits.{chunk, recordSize};
 ghost use Rattle.joined.specs.Lists.{total, parts};
-ghost use Rattle.coverage.specs.Held.{firstNotOnce};
 ghost use Rattle.plans.specs.Inner.{Shifts};
-ghost use Rattle.plans.specs.Piece.{pieceSize, piecesIn};
 ghost use Rattle.files.specs.Inner.{Resolvable};
 ghost use Rattle.files.specs.Limits.{maxLists};
-ghost use Rattle.judging.specs.Inner.{Led, Found};
+ghost use Rattle.judging.specs.Inner.{Worked};
 
 // Finds the pieces at the front that stand in order; or the number of the first whole piece that is wrong in itself, and, where there is neither such a piece nor a
 // rest, the first place that is not held once. The room for the lists serves for that too.
@@ -41,7 +39,7 @@ fn work(
     requires { ⌜ (total (now lengths) ≡ length (now lists)) × All (Resolvable (now marks) (now tops) (now pos) (now ends) (now order) (now spare)) (parts (now lengths) (now lists)) ⌝ }
     requires { ⌜ (length (now lengths) ≤ maxLists) × (from + n ≤ length (now lengths) * chunk) × Shifts block bits ⌝ }
     requires { ⌜ (0 < length (now pos)) × (length (now pos) < 2 ^ 16) × (length (now pos) ≤ length (now order)) × (length (now pos) ≤ length (now spare)) ⌝ }
-    ensures { λ r. ⌜ (lead ≡ true → Led first from n block (parts (now (lengths .entry)) (now (lists .entry))) (now (plan .entry)) (r .number) (r .place)) × (lead ≡ false → Found first from n block (parts (now (lengths .entry)) (now (lists .entry))) (now (plan .entry)) (r .number) × (length (now (plan .entry)) ≤ r .number * pieceSize → r .place ≡ firstNotOnce (piecesIn (now (plan .entry))) n)) ⌝ }
+    ensures { λ r. ⌜ Worked lead first from n block (parts (now (lengths .entry)) (now (lists .entry))) (now (plan .entry)) (r .number) (r .place) ⌝ }
 {
     if lead {
         return leading::lead_all(
@@ -103,7 +101,7 @@ fn small(
     requires { ⌜ (total (now lengths) ≡ length (now lists)) × All Accepts (parts (now lengths) (now lists)) ⌝ }
     requires { ⌜ (length (now lengths) ≤ maxLists) × (from + n ≤ length (now lengths) * chunk) × Shifts block bits ⌝ }
     requires { ⌜ length (now lists) ≤ 256 * recordSize ⌝ }
-    ensures { λ r. ⌜ (lead ≡ true → Led first from n block (parts (now (lengths .entry)) (now (lists .entry))) (now (plan .entry)) (r .number) (r .place)) × (lead ≡ false → Found first from n block (parts (now (lengths .entry)) (now (lists .entry))) (now (plan .entry)) (r .number) × (length (now (plan .entry)) ≤ r .number * pieceSize → r .place ≡ firstNotOnce (piecesIn (now (plan .entry))) n)) ⌝ }
+    ensures { λ r. ⌜ Worked lead first from n block (parts (now (lengths .entry)) (now (lists .entry))) (now (plan .entry)) (r .number) (r .place) ⌝ }
 {
     let mut marks = [0u32; 514];
     let mut tops = [0u16; 513];
@@ -144,7 +142,7 @@ fn large(
 ) -> Lead
     requires { ⌜ (total (now lengths) ≡ length (now lists)) × All Accepts (parts (now lengths) (now lists)) ⌝ }
     requires { ⌜ (length (now lengths) ≤ maxLists) × (from + n ≤ length (now lengths) * chunk) × Shifts block bits ⌝ }
-    ensures { λ r. ⌜ (lead ≡ true → Led first from n block (parts (now (lengths .entry)) (now (lists .entry))) (now (plan .entry)) (r .number) (r .place)) × (lead ≡ false → Found first from n block (parts (now (lengths .entry)) (now (lists .entry))) (now (plan .entry)) (r .number) × (length (now (plan .entry)) ≤ r .number * pieceSize → r .place ≡ firstNotOnce (piecesIn (now (plan .entry))) n)) ⌝ }
+    ensures { λ r. ⌜ Worked lead first from n block (parts (now (lengths .entry)) (now (lists .entry))) (now (plan .entry)) (r .number) (r .place) ⌝ }
 {
     let mut marks = [0u32; 4098];
     let mut tops = [0u16; 4097];
@@ -195,7 +193,7 @@ pub(crate) fn in_room(
 ) -> Lead
     requires { ⌜ (total (now lengths) ≡ length (now lists)) × All Accepts (parts (now lengths) (now lists)) ⌝ }
     requires { ⌜ (length (now lengths) ≤ maxLists) × (from + n ≤ length (now lengths) * chunk) × Shifts block bits ⌝ }
-    ensures { λ r. ⌜ (lead ≡ true → Led first from n block (parts (now (lengths .entry)) (now (lists .entry))) (now (plan .entry)) (r .number) (r .place)) × (lead ≡ false → Found first from n block (parts (now (lengths .entry)) (now (lists .entry))) (now (plan .entry)) (r .number) × (length (now (plan .entry)) ≤ r .number * pieceSize → r .place ≡ firstNotOnce (piecesIn (now (plan .entry))) n)) ⌝ }
+    ensures { λ r. ⌜ Worked lead first from n block (parts (now (lengths .entry)) (now (lists .entry))) (now (plan .entry)) (r .number) (r .place) ⌝ }
 {
     if is_small(lists.len(), plan.len()) {
         return small(lists, lengths, first, from, n, block, bits, plan, lead);

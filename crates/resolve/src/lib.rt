@@ -1,5 +1,5 @@
 // A slice list resolved once into segments, each with the record that lies on top of it.
-pub mod order;
+mod order;
 pub mod segments;
 mod set;
 mod sweep;

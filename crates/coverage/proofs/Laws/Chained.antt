@@ -9,7 +9,7 @@ use mathlib.Core.List.{List}
 use lib.Dec.{ltb}
 use lib.ListN.{getD}
 use borrow.Author.Tests.{lt-ltb, le-ltb, le-leb, lt-leb}
-use Rattle.resolve.specs.Sorted.{Sorted}
+use Rattle.sorting.specs.Sorted.{Sorted}
 use Rattle.coverage.specs.Inner.{oneIf, countBelow, spans, startAt, lenAt, keyed, filled, Lying, Chained}
 use Rattle.coverage.proofs.Laws.Count.{count-grows, count-rest, count-order, spans-next}
 
@@ -32,20 +32,14 @@ unfolding countBelow kth
 walked-more keys order cur k q v e f h p =
     rw (add-one k, ← e) (omega (arith, h p, spans-next (startAt keys v) (lenAt keys v) p, ap (λ (x : ℕ). oneIf (ltb p x)) f))
 
-module _ (keys order : List ℕ) (c cur : ℕ) (sorted : Sorted keys order c) where
+module _ (keys order : List ℕ) (c cur : ℕ) (sorted : Sorted keys c order) where
   -- no key is less than an earlier one
   later : (j k : ℕ) → j ≤ k → k < c → getD keys (getD order j 0) 0 ≤ getD keys (getD order k 0) 0
-  later j zero l m =
-      let e : j ≡ 0 = omega arith in
-      rw e (omega arith)
-  later j (suc k) l m = go (ℕ-discrete j (suc k)) (later j k)
+  later j k l m = go (ℕ-discrete j k)
     where
-      go : Dec (j ≡ suc k) → (j ≤ k → k < c → getD keys (getD order j 0) 0 ≤ getD keys (getD order k 0) 0)
-          → getD keys (getD order j 0) 0 ≤ getD keys (getD order (suc k) 0) 0
-      go (yes e) f = rw e (omega arith)
-      go (no e) f =
-          let r = rw (add-one k) at (sorted .rises k (omega arith)) in
-          omega (arith, f (omega arith) (omega arith))
+      go : Dec (j ≡ k) → getD keys (getD order j 0) 0 ≤ getD keys (getD order k 0) 0
+      go (yes e) = rw e (omega arith)
+      go (no e) = sorted .rising j k (omega arith) m
 
   -- all keys, in order or not
   in-order : (p : ℕ) → filled keys c cur p ≡ oneIf (ltb p cur) + countBelow (kth keys order p) c

@@ -13,7 +13,7 @@ use borrow.Author.Tests.{lt-ltb, le-ltb, le-leb, lt-leb}
 use Rattle.codec.specs.Fixed.{numberAt}
 use Rattle.plans.specs.Piece.{pieceSize, decodePiece, runOf, decodeRun}
 use Rattle.coverage.specs.Held.{holds}
-use Rattle.coverage.specs.Inner.{pieceAt, countBelow, spans, between, beginning, heldIn, above, keyOf, startAt, lenAt, keyed, Collected, Found}
+use Rattle.coverage.specs.Inner.{runAt, countBelow, spans, between, beginning, heldIn, above, keyOf, startAt, lenAt, keyed, Collected, Counted}
 use Rattle.coverage.proofs.Laws.Count.{count-same, count-grows}
 
 -- ---- a place and a window
@@ -39,15 +39,15 @@ collected-none plan low high keys = record { many = refl; same = λ p. refl; eac
 -- ---- one piece more
 
 module _ (plan : List ℕ) (low high i : ℕ) (keys : List ℕ) (c s : ℕ) (h : Collected plan low high i keys c) (e : s ≡ numberAt plan (i * pieceSize + 6) 4) where
-  start-is : pieceAt plan i .start ≡ s
+  start-is : runAt plan i .start ≡ s
   unfolding decodeRun runOf decodePiece
   start-is = sym e
 
   -- it begins elsewhere
-  pub put-outside : between low high s ≡ false → c ≤ length keys → Found plan low high (i + 1) keys c
+  pub put-outside : between low high s ≡ false → c ≤ length keys → Counted plan low high (i + 1) keys c
   unfolding beginning heldIn keyed countBelow
   put-outside b room =
-      let b' : between low high (pieceAt plan i .start) ≡ false = rw start-is b in
+      let b' : between low high (runAt plan i .start) ≡ false = rw start-is b in
       rw (add-one i)
       record {
         fit = λ _.
@@ -61,21 +61,21 @@ module _ (plan : List ℕ) (low high i : ℕ) (keys : List ℕ) (c s : ℕ) (h :
 
   -- it begins in the window
   module _ (a : low ≤ s) (b : s < high) where
-    starts : between low high (pieceAt plan i .start) ≡ true
+    starts : between low high (runAt plan i .start) ≡ true
     starts = rw start-is (in-window low high s a b)
 
     -- and has no room
-    pub put-over : length keys ≤ c → Found plan low high (i + 1) keys (c + 1)
+    pub put-over : length keys ≤ c → Counted plan low high (i + 1) keys (c + 1)
     unfolding beginning countBelow
     put-over full = rw (add-one i) record { fit = λ l. absurd (omega arith); over = λ _. rw starts (omega (arith, h .many)) }
 
     -- and has room
     module _ (n key : ℕ) (f : n ≡ numberAt plan (i * pieceSize + 30) 4) (small : n < above) (k : key ≡ s * above + n) (room : c < length keys) where
-      len-is : pieceAt plan i .len ≡ n
+      len-is : runAt plan i .len ≡ n
       unfolding decodeRun runOf decodePiece
       len-is = sym f
 
-      key-is : key ≡ keyOf (pieceAt plan i)
+      key-is : key ≡ keyOf (runAt plan i)
       unfolding keyOf
       key-is = rw (start-is, len-is) k
 
@@ -85,7 +85,7 @@ module _ (plan : List ℕ) (low high i : ℕ) (keys : List ℕ) (c s : ℕ) (h :
       there : (v : ℕ) → v < c → getD (set keys c key) v 0 ≡ getD keys v 0
       there v l = getD-set-other keys c v key 0 (λ x. omega arith)
 
-      holds-here : (p : ℕ) → spans (startAt (set keys c key) c) (lenAt (set keys c key) c) p ≡ holds (pieceAt plan i) p
+      holds-here : (p : ℕ) → spans (startAt (set keys c key) c) (lenAt (set keys c key) c) p ≡ holds (runAt plan i) p
       unfolding spans holds
       holds-here p =
           let x : key / above ≡ s = omega arith in
@@ -98,7 +98,7 @@ module _ (plan : List ℕ) (low high i : ℕ) (keys : List ℕ) (c s : ℕ) (h :
           count-same (λ (v : ℕ). spans (startAt (set keys c key) v) (lenAt (set keys c key) v) p) (λ (v : ℕ). spans (startAt keys v) (lenAt keys v) p) c
           (λ v l. rw (there v l))
 
-      pub put-inside : Found plan low high (i + 1) (set keys c key) (c + 1)
+      pub put-inside : Counted plan low high (i + 1) (set keys c key) (c + 1)
       unfolding beginning heldIn keyed countBelow
       put-inside =
           rw (add-one i, add-one c)
@@ -112,7 +112,7 @@ module _ (plan : List ℕ) (low high i : ℕ) (keys : List ℕ) (c s : ℕ) (h :
             over = λ l. absurd (omega (arith, length-set keys c key));
           }
         where
-          each : (v : ℕ) → v < suc c → Dec (v ≡ c) → (j : ℕ) × (j < suc i) × (pieceAt plan j .start < high) × (getD (set keys c key) v 0 ≡ keyOf (pieceAt plan j))
+          each : (v : ℕ) → v < suc c → Dec (v ≡ c) → (j : ℕ) × (j < suc i) × (runAt plan j .start < high) × (getD (set keys c key) v 0 ≡ keyOf (runAt plan j))
           each v l (yes x) = (i, omega arith, rw start-is b, rw x here ∙ key-is)
           each v l (no x) =
               let l' : v < c = omega arith in
@@ -120,14 +120,14 @@ module _ (plan : List ℕ) (low high i : ℕ) (keys : List ℕ) (c s : ℕ) (h :
               (w .0, omega (arith, w .1), w .2, there v l' ∙ w .3)
 
 -- more than there is room for among the first k pieces are more among all
-pub over-more : (plan : List ℕ) (low high k n : ℕ) (keys : List ℕ) (c : ℕ) → k ≤ n → length keys < c → Found plan low high k keys c → Found plan low high n keys c
+pub over-more : (plan : List ℕ) (low high k n : ℕ) (keys : List ℕ) (c : ℕ) → k ≤ n → length keys < c → Counted plan low high k keys c → Counted plan low high n keys c
 unfolding beginning
 over-more plan low high k n keys c l o h =
     record {
       fit = λ x. absurd (omega arith);
-      over = λ x. omega (arith, h .over o, count-grows (λ (i : ℕ). between low high (pieceAt plan i .start)) k n l);
+      over = λ x. omega (arith, h .over o, count-grows (λ (i : ℕ). between low high (runAt plan i .start)) k n l);
     }
 
 -- all that begin in the window have room
-pub found-fit : (plan : List ℕ) (low high k n : ℕ) (keys : List ℕ) (c : ℕ) → k ≡ n → c ≤ length keys → Collected plan low high k keys c → Found plan low high n keys c
+pub found-fit : (plan : List ℕ) (low high k n : ℕ) (keys : List ℕ) (c : ℕ) → k ≡ n → c ≤ length keys → Collected plan low high k keys c → Counted plan low high n keys c
 found-fit plan low high k n keys c e l h = rw (← e) record { fit = λ _. h; over = λ x. absurd (omega arith) }

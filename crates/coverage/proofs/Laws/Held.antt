@@ -17,7 +17,7 @@ use Rattle.plans.specs.Location.{Site}
 use Rattle.plans.specs.Piece.{pieceSize, decodeRun, piecesIn}
 use Rattle.coverage.specs.Least.{least}
 use Rattle.coverage.specs.Held.{holds, holders, notOnce, firstNotOnce}
-use Rattle.coverage.specs.Inner.{InOrder, oneIf, countBelow, spans, pieceAt}
+use Rattle.coverage.specs.Inner.{InOrder, oneIf, countBelow, spans, runAt}
 use Rattle.coverage.proofs.Laws.Least.{least-is, least-true, least-before}
 use Rattle.coverage.proofs.Laws.Count.{spans-next}
 
@@ -70,7 +70,7 @@ holders-more (x ∷ rs) r p = go (holds x p) (holders-more rs r p)
     go true e = omega arith
     go false e = e
 
-first-count : (plan : List ℕ) (p n : ℕ) → holders (groupsFrom decodeRun pieceSize plan 0 n) p ≡ countBelow (λ (i : ℕ). holds (pieceAt plan i) p) n
+first-count : (plan : List ℕ) (p n : ℕ) → holders (groupsFrom decodeRun pieceSize plan 0 n) p ≡ countBelow (λ (i : ℕ). holds (runAt plan i) p) n
 unfolding countBelow groupsFrom holders
 first-count plan p zero = refl
 first-count plan p (suc n) =
@@ -78,17 +78,17 @@ first-count plan p (suc n) =
     ∙ holders-more (groupsFrom decodeRun pieceSize plan 0 n) (decodeRun plan ((0 + n) * pieceSize)) p
     ∙ rw (zero-add, first-count plan p n)
 
-pub holders-count : (plan : List ℕ) (p : ℕ) → holders (piecesIn plan) p ≡ countBelow (λ (i : ℕ). holds (pieceAt plan i) p) (length plan / pieceSize)
+pub holders-count : (plan : List ℕ) (p : ℕ) → holders (piecesIn plan) p ≡ countBelow (λ (i : ℕ). holds (runAt plan i) p) (length plan / pieceSize)
 unfolding piecesIn groups
 holders-count plan p = first-count plan p (length plan / pieceSize)
 
 -- ---- one behind the other
 
-in-order-count : (plan : List ℕ) (k place p : ℕ) → InOrder plan k place → countBelow (λ (i : ℕ). holds (pieceAt plan i) p) k ≡ oneIf (ltb p place)
+in-order-count : (plan : List ℕ) (k place p : ℕ) → InOrder plan k place → countBelow (λ (i : ℕ). holds (runAt plan i) p) k ≡ oneIf (ltb p place)
 unfolding countBelow holds spans
 in-order-count plan zero place p h = sym (ap oneIf (le-ltb p place (omega arith)))
 in-order-count plan (suc k) place p h =
-    let r = pieceAt plan k in
+    let r = runAt plan k in
     rw (← h .0) (omega (arith, in-order-count plan k (r .start) p (h .1), spans-next (r .start) (r .len) p))
 
 -- pieces that stand one behind the other hold each place once; an empty one holds none

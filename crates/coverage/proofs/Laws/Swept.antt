@@ -10,7 +10,7 @@ use Rattle.runs.specs.Runs.{Run}
 use Rattle.plans.specs.Location.{Site}
 use Rattle.plans.specs.Piece.{piecesIn}
 use Rattle.coverage.specs.Held.{holders, firstNotOnce}
-use Rattle.coverage.specs.Inner.{Inside, pieceAt, whole, oneIf, heldIn, above, keyOf, startAt, filled, Collected, Lying, Chained}
+use Rattle.coverage.specs.Inner.{Inside, runAt, whole, oneIf, heldIn, above, keyOf, startAt, filled, Collected, Lying, Chained}
 use Rattle.coverage.proofs.Laws.Held.{first-is, first-none}
 use Rattle.coverage.proofs.Laws.Windows.{inside-at, held-parts, held-none, held-before}
 
@@ -36,7 +36,7 @@ module _ (plan : List ℕ) (n : ℕ) (inside : All (Inside n) (piecesIn plan)) (
   pub keys-lie : Lying keys c
   keys-lie v l =
       let w = h .each v l in
-      let r = pieceAt plan (w .0) in
+      let r = runAt plan (w .0) in
       let i = inside-at plan n inside (w .0) (w .1) in
       rw (w .3, key-start r (omega (arith, i .within)), key-len r (omega (arith, i .within))) (i .some, omega (arith, i .within))
 
@@ -44,7 +44,7 @@ module _ (plan : List ℕ) (n : ℕ) (inside : All (Inside n) (piecesIn plan)) (
   keys-begin v l =
       let w = h .each v l in
       let i = inside-at plan n inside (w .0) (w .1) in
-      rw (w .3, key-start (pieceAt plan (w .0)) (omega (arith, i .within))) (w .2)
+      rw (w .3, key-start (runAt plan (w .0)) (omega (arith, i .within))) (w .2)
 
   module _ (cur q : ℕ) (s : Swept plan low cur) (l : low ≤ high) (d : Chained keys c cur q) where
     -- the keys of the window are added to what was filled before

@@ -16,7 +16,7 @@ use Rattle.runs.specs.Runs.{Run}
 use Rattle.plans.specs.Location.{Site}
 use Rattle.plans.specs.Piece.{pieceSize, decodeRun, piecesIn}
 use Rattle.coverage.specs.Held.{holds, holders}
-use Rattle.coverage.specs.Inner.{Inside, pieceAt, whole, oneIf, between, beginning, heldIn, Found, Windowed}
+use Rattle.coverage.specs.Inner.{Inside, runAt, whole, oneIf, between, beginning, heldIn, Counted, Windowed}
 use Rattle.coverage.proofs.Laws.Count.{count-none, count-less, count-same, count-parts}
 use Rattle.coverage.proofs.Laws.Held.{holds-in, holds-both, holders-count}
 use Rattle.coverage.proofs.Laws.Collected.{in-window, before-window, behind-window}
@@ -27,7 +27,7 @@ between-both low high s h =
     let b = and-both (leb low s) (ltb s high) h in
     (leb-true low s (b .0), ltb-true s high (b .1))
 
-pub inside-at : (plan : List ℕ) (n : ℕ) → All (Inside n) (piecesIn plan) → (i : ℕ) → i < whole plan → Inside n (pieceAt plan i)
+pub inside-at : (plan : List ℕ) (n : ℕ) → All (Inside n) (piecesIn plan) → (i : ℕ) → i < whole plan → Inside n (runAt plan i)
 unfolding piecesIn groups
 inside-at plan n h i l = groups-at decodeRun pieceSize (Inside n) plan 0 (whole plan) h i (omega arith) (omega arith)
 
@@ -36,16 +36,16 @@ pub begin-held : (plan : List ℕ) (n low high : ℕ) → All (Inside n) (pieces
 unfolding beginning
 begin-held plan n low high h e =
     rw (holders-count plan low)
-    (count-less (λ (i : ℕ). between low high (pieceAt plan i .start)) (λ (i : ℕ). holds (pieceAt plan i) low) (whole plan) here)
+    (count-less (λ (i : ℕ). between low high (runAt plan i .start)) (λ (i : ℕ). holds (runAt plan i) low) (whole plan) here)
   where
-    here : (i : ℕ) → i < whole plan → between low high (pieceAt plan i .start) ≡ true → holds (pieceAt plan i) low ≡ true
+    here : (i : ℕ) → i < whole plan → between low high (runAt plan i .start) ≡ true → holds (runAt plan i) low ≡ true
     here i l b =
-        let w = between-both low high (pieceAt plan i .start) b in
-        holds-in (pieceAt plan i) low (omega arith) (omega (arith, inside-at plan n h i l .some))
+        let w = between-both low high (runAt plan i .start) b in
+        holds-in (runAt plan i) low (omega arith) (omega (arith, inside-at plan n h i l .some))
 
 -- ---- found
 
-pub window-found : (plan : List ℕ) (low base n : ℕ) (keys : List ℕ) (high c : ℕ) → low < high → high ≤ n → c ≤ length keys → Found plan low high (whole plan) keys c
+pub window-found : (plan : List ℕ) (low base n : ℕ) (keys : List ℕ) (high c : ℕ) → low < high → high ≤ n → c ≤ length keys → Counted plan low high (whole plan) keys c
     → Windowed plan low base n keys high c
 window-found plan low base n keys high c a b l f =
     record { behind = omega arith; inside = b; room = l; crowded = λ e. absurd (omega arith); collected = λ _. f .fit l }
@@ -65,11 +65,11 @@ window-some plan low base other n keys high c l w =
 pub held-parts : (plan : List ℕ) (low high k p : ℕ) → low ≤ high → heldIn plan 0 low k p + heldIn plan low high k p ≡ heldIn plan 0 high k p
 unfolding heldIn
 held-parts plan low high k p l =
-    count-parts (λ (i : ℕ). between 0 low (pieceAt plan i .start) && holds (pieceAt plan i) p)
-    (λ (i : ℕ). between low high (pieceAt plan i .start) && holds (pieceAt plan i) p)
-    (λ (i : ℕ). between 0 high (pieceAt plan i .start) && holds (pieceAt plan i) p)
+    count-parts (λ (i : ℕ). between 0 low (runAt plan i .start) && holds (runAt plan i) p)
+    (λ (i : ℕ). between low high (runAt plan i .start) && holds (runAt plan i) p)
+    (λ (i : ℕ). between 0 high (runAt plan i .start) && holds (runAt plan i) p)
     k
-    (λ i _. go (pieceAt plan i .start) (holds (pieceAt plan i) p) (decLt (pieceAt plan i .start) low) (decLt (pieceAt plan i .start) high))
+    (λ i _. go (runAt plan i .start) (holds (runAt plan i) p) (decLt (runAt plan i .start) low) (decLt (runAt plan i .start) high))
   where
     go : (s : ℕ) (b : Bool) → Dec (s < low) → Dec (s < high) → oneIf (between 0 low s && b) + oneIf (between low high s && b) ≡ oneIf (between 0 high s && b)
     go s b (yes x) y = rw (in-window 0 low s (omega arith) x, before-window low high s x, in-window 0 high s (omega arith) (omega arith)) (omega arith)
@@ -80,14 +80,14 @@ held-parts plan low high k p l =
 pub held-none : (plan : List ℕ) (k p : ℕ) → heldIn plan 0 0 k p ≡ 0
 unfolding heldIn
 held-none plan k p =
-    count-none (λ (i : ℕ). between 0 0 (pieceAt plan i .start) && holds (pieceAt plan i) p) k (λ i _. rw (behind-window 0 0 (pieceAt plan i .start) (omega arith)))
+    count-none (λ (i : ℕ). between 0 0 (runAt plan i .start) && holds (runAt plan i) p) k (λ i _. rw (behind-window 0 0 (runAt plan i .start) (omega arith)))
 
 -- a place is held by pieces that begin no later
 pub held-before : (plan : List ℕ) (high p : ℕ) → p < high → heldIn plan 0 high (whole plan) p ≡ holders (piecesIn plan) p
 unfolding heldIn
 held-before plan high p l =
-    count-same (λ (i : ℕ). between 0 high (pieceAt plan i .start) && holds (pieceAt plan i) p) (λ (i : ℕ). holds (pieceAt plan i) p) (whole plan)
-    (λ i _. go (pieceAt plan i) (holds (pieceAt plan i) p) refl)
+    count-same (λ (i : ℕ). between 0 high (runAt plan i .start) && holds (runAt plan i) p) (λ (i : ℕ). holds (runAt plan i) p) (whole plan)
+    (λ i _. go (runAt plan i) (holds (runAt plan i) p) refl)
     ∙ sym (holders-count plan p)
   where
     go : (r : Run Site) (b : Bool) → holds r p ≡ b → (between 0 high (r .start) && b) ≡ b

@@ -80,10 +80,8 @@ sort-requires c κs =
     let w = window .next-window in
     let l = w .kept .1 .1 .1 .1 .1 .0 in
     let count = w .ensures .room in (
-      count,
-      omega (arith, count, l, room .2, inv .2, inv .3),
-      omega (arith, count, l, room .3, inv .2, inv .4),
       omega (arith, count, l, room .1, inv .2),
+      (count, (omega (arith, count, l, room .2, inv .2, inv .3), omega (arith, count, l, room .3, inv .2, inv .4))),
     )
 
 chain-requires : tie.Need-chain-requires Inv-loop μ-loop

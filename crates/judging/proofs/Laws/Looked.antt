@@ -21,7 +21,7 @@ use Rattle.files.specs.File.{siteFrom}
 use Rattle.judging.specs.Judge.{verdict, wrongPiece, WrongInItself, WrongPiece, no-length, outside, cut-short, whole, pieceCount}
 use Rattle.judging.specs.Claims.{NoneWrong}
 use Rattle.judging.specs.Calls.{said}
-use Rattle.judging.specs.Inner.{pieceAt, chunkOf, LiesIn, Led, Found, saidOf}
+use Rattle.judging.specs.Inner.{pieceAt, chunkOf, LiesIn, Led, WrongFound, saidOf}
 use Rattle.judging.proofs.Laws.Exactly.{rejected-exactly}
 use Rattle.judging.proofs.Laws.Forms.{form}
 use Rattle.judging.proofs.Laws.Right.{Right, right-pieces}
@@ -122,7 +122,7 @@ module _ (first from n B : ℕ) (ls : List (List ℕ)) (plan : List ℕ) where
           piece-right first from n B ls (pieceAt plan i) (x .form) (subst (λ (k : ℕ). LiesIn from B (records (getD ls k [])) (pieceAt plan i)) (sym (x .here)) (x .lies))
 
   -- pieces in any order
-  module _ (fits : from + n ≤ length ls * chunk) (r : ℕ) (h : Found first from n B ls plan r) where
+  module _ (fits : from + n ≤ length ls * chunk) (r : ℕ) (h : WrongFound first from n B ls plan r) where
     chunk-within : (i : ℕ) → i < h .limit → chunkOf from (pieceAt plan i) < length ls
     unfolding chunk
     chunk-within i l =

@@ -28,7 +28,7 @@ wide-requires c κs = search needs
 in-keys : (c : tie.After-wide Inv-loop μ-loop) → let start = c .before .before .before .before .before .before in c .wide .result < start .args .c
 in-keys c =
     let walk = c .before .before in
-    rw (c .wide .ensures) (walk .before .before .before .before .pre .2 .within _ (walk .loop-test .taken))
+    rw (c .wide .ensures .0) (walk .before .before .before .before .pre .2 .within _ (walk .loop-test .taken))
 
 mul-key : tie.Need-mul-key Inv-loop μ-loop
 mul-key c = omega (arith, in-keys c)
@@ -44,14 +44,14 @@ returns c =
     let slot = c .before .before in
     let walk = slot .before .before in
     let pre = walk .before .before .before .before .pre in
-    chained-twice _ _ _ _ (pre .2) _ _ (walk .before .loop .inv .1) _ (walk .loop-test .taken) (slot .wide .ensures) (pre .3) (omega arith)
+    chained-twice _ _ _ _ (pre .2) _ _ (walk .before .loop .inv .1) _ (walk .loop-test .taken) (slot .wide .ensures .0) (pre .3) (omega arith)
 
 returns-2 : tie.Need-returns-2 Inv-loop μ-loop
 returns-2 c =
     let slot = c .before .before .before in
     let walk = slot .before .before in
     let pre = walk .before .before .before .before .pre in
-    chained-gap _ _ _ _ (pre .2) _ _ (walk .before .loop .inv .1) _ (walk .loop-test .taken) (slot .wide .ensures) (omega arith)
+    chained-gap _ _ _ _ (pre .2) _ _ (walk .before .loop .inv .1) _ (walk .loop-test .taken) (slot .wide .ensures .0) (omega arith)
 
 cast-q : tie.Need-cast-q Inv-loop μ-loop
 cast-q c = omega arith
@@ -70,7 +70,7 @@ loop-less c = omega arith
 loop-again : tie.Need-loop-again Inv-loop μ-loop
 loop-again c =
     let slot = c .before .before .before in
-    (omega arith, walked-more _ _ _ _ _ _ (slot .wide .ensures) (omega arith) (slot .before .before .before .loop .inv .1))
+    (omega arith, walked-more _ _ _ _ _ _ (slot .wide .ensures .0) (omega arith) (slot .before .before .before .loop .inv .1))
 
 returns-3 : tie.Need-returns-3 Inv-loop μ-loop
 returns-3 c =

@@ -4,8 +4,8 @@ use borrow.Author.Needs.{needs}
 use Rattle.judging.proofs.pieces.read_piece.Statement.{statement}
 use Rattle.judging.proofs.pieces.read_piece.Tie as tie
 
-read-mark-requires : tie.Need-read-mark-requires
-read-mark-requires c κs = search needs
+read-be16-requires : tie.Need-read-be16-requires
+read-be16-requires c κs = search needs
 
 add-read-be32 : tie.Need-add-read-be32
 add-read-be32 c = search needs
@@ -51,7 +51,7 @@ read-be32-requires-6 c κs = search needs
 
 returns : tie.Need-returns
 unfolding decodePiece
-returns c = let mark = c .before .before .before .before .before .before .before .read-mark .ensures in
+returns c = let mark = c .before .before .before .before .before .before .before .read-be16 .ensures in
     let index = c .before .before .before .before .before .before .read-be32 .ensures in
     let place = c .before .before .before .before .before .read-be322 .ensures in
     let id = c .before .before .before .before .read-be64 .ensures in
@@ -65,7 +65,7 @@ pub read-piece-spec : {M : Type 1} → statement M
 read-piece-spec =
     tie.close
     (tie.spec
-    read-mark-requires
+    read-be16-requires
     add-read-be32
     read-be32-requires
     add-read-be32-2
