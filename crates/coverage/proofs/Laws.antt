@@ -2,6 +2,7 @@
 pub mod Least
 pub mod Count
 pub mod Held
+pub mod Kept
 pub mod Collected
 pub mod Windows
 pub mod Chained

@@ -8,8 +8,8 @@ use lib.Dec.{leb, ltb}
 use lib.ListN.{length, getD}
 use Rattle.runs.specs.Runs.{Run}
 use Rattle.plans.specs.Location.{Site}
-use Rattle.plans.specs.Piece.{pieceSize, decodeRun, piecesIn}
-use Rattle.coverage.specs.Held.{holds, holders}
+use Rattle.plans.specs.Piece.{pieceSize, decodeRun}
+use Rattle.coverage.specs.Held.{holds}
 
 -- a piece has a length, and lies inside a read of n bytes
 pub record Inside (n : ℕ) (r : Run Site) : Type 0 where
@@ -77,25 +77,42 @@ lenAt keys v = getD keys v 0 % above
 unfoldable pub keyed : List ℕ → (c p : ℕ) → ℕ
 keyed keys c p = countBelow (λ (v : ℕ). spans (startAt keys v) (lenAt keys v) p) c
 
--- the first c keys are those of the pieces, among the first k, that begin in the window
+-- how many of the first c keys pass a test on the place and the length
+unfoldable pub keysThat : (ℕ → ℕ → Bool) → List ℕ → (c : ℕ) → ℕ
+keysThat t keys c = countBelow (λ (v : ℕ). t (startAt keys v) (lenAt keys v)) c
+
+-- how many of the first k pieces begin in the window and pass it
+unfoldable pub begunThat : (ℕ → ℕ → Bool) → List ℕ → (low high k : ℕ) → ℕ
+begunThat t plan low high k = countBelow (λ (i : ℕ). between low high (runAt plan i .start) && t (runAt plan i .start) (runAt plan i .len)) k
+
+-- the first c keys are those of the pieces, among the first k, that begin in the window: each as often
 pub record Collected (plan : List ℕ) (low high k : ℕ) (keys : List ℕ) (c : ℕ) : Type 0 where
-  pub many : c ≡ beginning plan low high k
-  pub same : (p : ℕ) → keyed keys c p ≡ heldIn plan low high k p
-  pub each : (v : ℕ) → v < c → (i : ℕ) × (i < k) × (runAt plan i .start < high) × (getD keys v 0 ≡ keyOf (runAt plan i))
+  pub same : (t : ℕ → ℕ → Bool) → keysThat t keys c ≡ begunThat t plan low high k
+  pub each : (v : ℕ) → v < c → (i : ℕ) × (i < k) × (startAt keys v < high) × (getD keys v 0 ≡ keyOf (runAt plan i))
 
--- a count that tells whether there is room for all of them
-pub record Counted (plan : List ℕ) (low high k : ℕ) (keys : List ℕ) (c : ℕ) : Type 0 where
-  pub fit : c ≤ length keys → Collected plan low high k keys c
-  pub over : length keys < c → length keys < beginning plan low high k
-
--- the window from `low` up to `high`, and the keys of all pieces that begin in it; where it is empty though it was to reach beyond `low`, more than one
--- piece begins there
-pub record Windowed (plan : List ℕ) (low base n : ℕ) (keys : List ℕ) (high c : ℕ) : Type 0 where
+-- the window from `low` up to `high`, at most to n, and the keys of the pieces, among the first k, that begin in it; where it is empty, more than one
+-- of them begins at `low`
+pub record Windowed (plan : List ℕ) (low n k : ℕ) (keys : List ℕ) (high c : ℕ) : Type 0 where
   pub behind : low ≤ high
   pub inside : high ≤ n
   pub room : c ≤ length keys
-  pub crowded : high ≡ low → base ≡ low → 1 < holders (piecesIn plan) low
-  pub collected : low < high → Collected plan low high (whole plan) keys c
+  pub crowded : high ≡ low → 1 < beginning plan low (low + 1) k
+  pub collected : low < high → Collected plan low high k keys c
+
+-- ---- keys kept
+
+-- of the first c keys `old`, those that begin before `high` are now the first d
+pub record Kept (old : List ℕ) (c high : ℕ) (keys : List ℕ) (d : ℕ) : Type 0 where
+  pub fewer : d ≤ c
+  pub same : (t : ℕ → ℕ → Bool) → keysThat t keys d ≡ keysThat (λ (s l : ℕ). ltb s high && t s l) old c
+  pub each : (v : ℕ) → v < d → (w : ℕ) × (w < c) × (startAt keys v < high) × (getD keys v 0 ≡ getD old w 0)
+
+-- a window that ends earlier, and those of as many keys as there is room for that begin in it; all of them only where it has one place
+pub record Narrowed (old : List ℕ) (low high : ℕ) (keys : List ℕ) (edge d : ℕ) : Type 0 where
+  pub behind : low < edge
+  pub inside : edge ≤ high
+  pub narrowest : length old ≤ d → edge ≡ low + 1
+  pub kept : Kept old (length old) edge keys d
 
 -- ---- one behind the other
 

@@ -3,7 +3,6 @@ mod chain;
 mod keys;
 mod windows;
 
-use plans::PIECE;
 use sorting::sort;
 ghost use mathlib.Core.Path.{_≡_};
 ghost use Prim.Native.Nat.{_≤_, _<_, _^_};
@@ -27,16 +26,14 @@ pub fn first_not_once(
     requires { ⌜ (0 < length (now keys)) × (length (now keys) < 2 ^ 16) × (length (now keys) ≤ length (now order)) × (length (now keys) ≤ length (now spare)) ⌝ }
     ensures { λ r. ⌜ r ≡ firstNotOnce (piecesIn (now (plan .entry))) n ⌝ }
 {
-    let mut width = windows::first_width(plan.len() / PIECE, n, keys.len());
     let mut low = 0;
     let mut cur = 0;
     while low < n {
-        let window = windows::next_window(plan, low, cur, width, n, keys);
+        let window = keys::collect(plan, low, n, keys);
         let high = window.high;
         if high <= low {
             return low;
         }
-        width = windows::next_width(cur, high, window.count, keys.len());
         sort(keys, window.count, order, spare);
         cur = chain::chain(keys, order, window.count, cur);
         if cur < high {

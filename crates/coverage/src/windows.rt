@@ -1,11 +1,10 @@
-// The windows of a read: in each, the pieces that begin there have room.
-use crate::keys;
+// The window of a read whose pieces have room, and how it is narrowed where they have none.
+use crate::keys::ABOVE;
 ghost use mathlib.Core.Path.{_≡_};
-ghost use Prim.Native.Nat.{_+_, _≤_, _<_, _^_};
+ghost use Prim.Native.Nat.{_+_, _/_, _^_, _≤_, _<_};
+ghost use lib.Dec.{ltb};
 ghost use lib.ListN.{length};
-ghost use Rattle.codec.specs.All.{All};
-ghost use Rattle.plans.specs.Piece.{piecesIn};
-ghost use Rattle.coverage.specs.Inner.{Inside, Windowed};
+ghost use Rattle.coverage.specs.Inner.{above, oneIf, Kept, Narrowed};
 
 // A window goes up to `high`, and `count` pieces begin in it.
 pub(crate) struct Window {
@@ -13,83 +12,73 @@ pub(crate) struct Window {
     pub(crate) count: usize,
 }
 
-// The end of a window from `low` on that reaches `width` places beyond `base`, or the end of the read.
-fn edge(low: u32, base: u32, width: u32, n: u32) -> u32
-    requires { ⌜ (low < n) × (low ≤ base) × (0 < width) ⌝ }
-    ensures { λ r. ⌜ (low < r) × (r ≤ n) × (width ≡ 1 → base ≡ low → r ≡ low + 1) ⌝ }
+// 1 where a key begins before `high`.
+fn begins(key: u64, high: u32) -> usize
+    ensures { λ r. ⌜ (r ≡ oneIf (ltb (key / above) high)) × (r ≤ 1) ⌝ }
 {
-    if n <= base {
-        return n;
-    }
-    if n - base <= width {
-        return n;
-    }
-    base + width
-}
-
-// The window from `low` on that reaches at most `width` places beyond `base`; half as many, as often as it must be.
-fn try_window(plan: &[u8], low: u32, base: u32, width: u32, n: u32, keys: &mut [u64]) -> Window
-    requires { ⌜ All (Inside n) (piecesIn (now plan)) ⌝ }
-    requires { ⌜ (low < n) × (low ≤ base) × (0 < width) × (0 < length (now keys)) ⌝ }
-    ensures { λ r. ⌜ Windowed (now (plan .entry)) low base n (now (keys .exit)) (r .high) (r .count) ⌝ }
-{
-    let mut w = width;
-    while 0 < w {
-        let high = edge(low, base, w, n);
-        let count = keys::collect(plan, low, high, keys);
-        if count <= keys.len() {
-            return Window { high, count };
-        }
-        w /= 2;
-    }
-    Window {
-        high: low,
-        count: 0,
-    }
-}
-
-// The window from `low` on, where the places before `cur` are filled. It reaches beyond `cur`, since no piece should begin before that: so a long piece is gone by
-// in one step. Only where pieces crowd there, and so hold a place twice, it is looked for from `low` on.
-pub(crate) fn next_window(
-    plan: &[u8],
-    low: u32,
-    cur: u32,
-    width: u32,
-    n: u32,
-    keys: &mut [u64],
-) -> Window
-    requires { ⌜ All (Inside n) (piecesIn (now plan)) ⌝ }
-    requires { ⌜ (low < n) × (low ≤ cur) × (0 < width) × (0 < length (now keys)) ⌝ }
-    ensures { λ r. ⌜ Windowed (now (plan .entry)) low low n (now (keys .exit)) (r .high) (r .count) ⌝ }
-{
-    let window = try_window(plan, low, cur, width, n, keys);
-    if low < window.high {
-        return window;
-    }
-    try_window(plan, low, low, n - low, n, keys)
-}
-
-// The width of the first window: the whole read where all its pieces have room, else as if half the room would be taken.
-pub(crate) fn first_width(pieces: usize, n: u32, room: usize) -> u32
-    requires { ⌜ (n ≤ 2 ^ 30) × (room < 2 ^ 16) ⌝ }
-    ensures { λ r. ⌜ (0 < n → 0 < r) ⌝ }
-{
-    if pieces <= room {
-        return n;
-    }
-    (n as u64 * (room / 2) as u64 / pieces as u64) as u32 + 1
-}
-
-// The width of the next window, where the last one reached from `cur` up to `high`: twice as much where that took little room.
-pub(crate) fn next_width(cur: u32, high: u32, count: usize, room: usize) -> u32
-    requires { ⌜ high ≤ 2 ^ 30 ⌝ }
-    ensures { λ r. ⌜ 0 < r ⌝ }
-{
-    if high <= cur {
+    if key / ABOVE < high as u64 {
         return 1;
     }
-    if count < room / 4 {
-        return (high - cur) * 2;
+    0
+}
+
+// Moves the keys that begin before `high` to the front: how many they are.
+fn keep(keys: &mut [u64], high: u32) -> usize
+    ensures { λ r. ⌜ Kept (now (keys .entry)) (length (now (keys .entry))) high (now (keys .exit)) r ⌝ }
+{
+    let mut kept = 0;
+    let mut i = 0;
+    while i < keys.len() {
+        let key = keys[i];
+        keys[kept] = key;
+        kept += begins(key, high);
+        i += 1;
     }
-    high - cur
+    kept
+}
+
+// The mean of the places at which keys begin.
+fn mean(keys: &[u64]) -> u64
+    requires { ⌜ (0 < length (now keys)) × (length (now keys) < 2 ^ 16) ⌝ }
+{
+    let mut sum: u64 = 0;
+    let mut i = 0;
+    while i < keys.len() {
+        sum += keys[i] / ABOVE;
+        i += 1;
+    }
+    sum / keys.len() as u64
+}
+
+// Where a window that goes up to `high` is cut: about half of the pieces begin before their mean, wherever they crowd.
+fn cut(keys: &[u64], low: u32, high: u32) -> u32
+    requires { ⌜ (low < high) × (0 < length (now keys)) × (length (now keys) < 2 ^ 16) ⌝ }
+    ensures { λ r. ⌜ (low < r) × (r ≤ high) ⌝ }
+{
+    let middle = mean(keys);
+    if middle <= low as u64 {
+        return low + 1;
+    }
+    if middle < high as u64 {
+        return middle as u32;
+    }
+    high
+}
+
+// Narrows a window whose keys take all the room. Where the first cut leaves all of them, as it may where pieces begin at one place, its first place is left.
+pub(crate) fn narrow(keys: &mut [u64], low: u32, high: u32) -> Window
+    requires { ⌜ (low < high) × (0 < length (now keys)) × (length (now keys) < 2 ^ 16) ⌝ }
+    ensures { λ r. ⌜ Narrowed (now (keys .entry)) low high (now (keys .exit)) (r .high) (r .count) ⌝ }
+{
+    let edge = cut(keys, low, high);
+    let count = keep(keys, edge);
+    if count < keys.len() {
+        return Window { high: edge, count };
+    }
+    let least = low + 1;
+    let left = keep(keys, least);
+    Window {
+        high: least,
+        count: left,
+    }
 }

@@ -6,7 +6,7 @@ use plans::Piece;
 use slices::CHUNK;
 ghost use mathlib.Core.Path.{_≡_};
 ghost use mathlib.Core.Bool.{true, false};
-ghost use Prim.Native.Nat.{ℕ, _+_, _*_, _/_, _^_, _<_, _≤_};
+ghost use Prim.Native.Nat.{_+_, _*_, _/_, _^_, _<_, _≤_};
 ghost use lib.ListN.{length};
 ghost use Rattle.slices.specs.Record.{records};
 ghost use Rattle.resolve.specs.Resolved.{Ready};
@@ -18,7 +18,7 @@ ghost use Rattle.joined.specs.Lists.{total, parts};
 ghost use Rattle.plans.specs.declared.Piece.{Piece};
 ghost use Rattle.files.specs.Inner.{Resolvable};
 ghost use Rattle.files.specs.Limits.{maxLists};
-ghost use Rattle.judging.specs.Inner.{pieceAt, formed, chunkOf, RightIn, Led, Leads};
+ghost use Rattle.judging.specs.Inner.{formed, chunkOf, Led, Leads};
 
 // How many pieces they are, and the place behind the last of them.
 pub(crate) struct Lead {

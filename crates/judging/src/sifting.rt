@@ -5,8 +5,8 @@ use files::parts;
 use plans::PIECE;
 use slices::CHUNK;
 ghost use mathlib.Core.Path.{_≡_};
-ghost use mathlib.Core.Bool.{true, false};
-ghost use Prim.Native.Nat.{ℕ, _+_, _*_, _/_, _^_, _<_, _≤_};
+ghost use mathlib.Core.Bool.{false};
+ghost use Prim.Native.Nat.{_+_, _*_, _/_, _^_, _<_, _≤_};
 ghost use lib.ListN.{length};
 ghost use Rattle.slices.specs.Record.{records};
 ghost use Rattle.resolve.specs.Resolved.{Ready};
@@ -16,7 +16,7 @@ ghost use Rattle.codec.specs.All.{All};
 ghost use Rattle.joined.specs.Lists.{total, parts};
 ghost use Rattle.files.specs.Inner.{Resolvable};
 ghost use Rattle.files.specs.Limits.{maxLists};
-ghost use Rattle.judging.specs.Inner.{pieceAt, formed, chunkOf, LiesIn, StraysIn, Formed, Sifts, Sifted};
+ghost use Rattle.judging.specs.Inner.{pieceAt, formed, Formed, Sifts, Sifted};
 
 // The number of the first piece whose own numbers tell that it is wrong; as many as there are whole ones where there is none.
 pub(crate) fn first_misformed(plan: &[u8], first: u32, from: u32, n: u32) -> usize

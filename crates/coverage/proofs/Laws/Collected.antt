@@ -1,20 +1,21 @@
 -- Laws of the keys of the pieces that begin in a window. Assumes nothing.
 use Prim.Native.Nat.{ℕ, suc, _+_, _*_, _/_, _%_, _≤_, _<_}
 use native.Mathlib.Omega.{arith}
-use native.Mathlib.Decide.{ℕ-discrete}
+use native.Mathlib.Decide.{ℕ-discrete, decLt}
 use native.Mathlib.Numerals.{add-one}
-use mathlib.Core.Path.{_≡_, refl, sym, _∙_}
-use mathlib.Core.Bool.{true, false, and-false}
+use mathlib.Core.Path.{_≡_, refl, sym, subst, _∙_}
+use mathlib.Core.Bool.{Bool, true, false, _&&_, and-true, and-false}
 use mathlib.Core.List.{List}
-use lib.Dec.{leb}
-use lib.ListN.{length, getD, set, length-set}
+use lib.Dec.{leb, ltb}
+use lib.ListN.{length, getD, set}
 use lib.Seq.{getD-set-same, getD-set-other}
 use borrow.Author.Tests.{lt-ltb, le-ltb, le-leb, lt-leb}
 use Rattle.codec.specs.Fixed.{numberAt}
 use Rattle.plans.specs.Piece.{pieceSize, decodePiece, runOf, decodeRun}
 use Rattle.coverage.specs.Held.{holds}
-use Rattle.coverage.specs.Inner.{runAt, countBelow, spans, between, beginning, heldIn, above, keyOf, startAt, lenAt, keyed, Collected, Counted}
-use Rattle.coverage.proofs.Laws.Count.{count-same, count-grows}
+use Rattle.coverage.specs.Inner.{runAt, countBelow, spans, between, beginning, heldIn, above, keyOf, startAt, keyed, keysThat, begunThat, Collected, Kept, Narrowed}
+use Rattle.coverage.proofs.Laws.Count.{count-same, count-every}
+use Rattle.coverage.proofs.Laws.Kept.{keys-more}
 
 -- ---- a place and a window
 
@@ -33,8 +34,48 @@ behind-window low high s a = rw (le-ltb s high a) (and-false (leb low s))
 -- ---- no piece yet
 
 pub collected-none : (plan : List ℕ) (low high : ℕ) (keys : List ℕ) → Collected plan low high 0 keys 0
-unfolding beginning heldIn keyed countBelow
-collected-none plan low high keys = record { many = refl; same = λ p. refl; each = λ v l. absurd (omega arith) }
+unfolding keysThat begunThat countBelow
+collected-none plan low high keys = record { same = λ t. refl; each = λ v l. absurd (omega arith) }
+
+-- ---- how many there are, and how many hold a place
+
+module _ (plan : List ℕ) (low high k : ℕ) (keys : List ℕ) (c : ℕ) (h : Collected plan low high k keys c) where
+  pub collected-many : c ≡ beginning plan low high k
+  unfolding keysThat begunThat beginning
+  collected-many =
+      sym (count-every c) ∙ h .same (λ (s l : ℕ). true)
+      ∙ count-same (λ (i : ℕ). between low high (runAt plan i .start) && true) (λ (i : ℕ). between low high (runAt plan i .start)) k
+      (λ i _. and-true (between low high (runAt plan i .start)))
+
+  pub collected-held : (p : ℕ) → keyed keys c p ≡ heldIn plan low high k p
+  unfolding keysThat begunThat keyed heldIn holds spans
+  collected-held p = h .same (λ (s l : ℕ). spans s l p)
+
+  -- ---- in a window that ends earlier
+
+  collected-narrow : (new : List ℕ) (edge d : ℕ) → edge ≤ high → Kept keys c edge new d → Collected plan low edge k new d
+  unfolding begunThat between
+  collected-narrow new edge d l x =
+      record {
+        same = λ t. x .same t ∙ h .same (λ (s n : ℕ). ltb s edge && t s n)
+            ∙ count-same (λ (i : ℕ). between low high (runAt plan i .start) && (ltb (runAt plan i .start) edge && t (runAt plan i .start) (runAt plan i .len)))
+            (λ (i : ℕ). between low edge (runAt plan i .start) && t (runAt plan i .start) (runAt plan i .len)) k
+            (λ i _. go (runAt plan i .start) (t (runAt plan i .start) (runAt plan i .len)) (decLt (runAt plan i .start) edge));
+        each = λ v m.
+            let w = x .each v m in
+            let y = h .each (w .0) (w .1) in
+            (y .0, y .1, w .2, w .3 ∙ y .3);
+      }
+    where
+      go : (s : ℕ) (t : Bool) → Dec (s < edge) → (between low high s && (ltb s edge && t)) ≡ (between low edge s && t)
+      go s t (yes y) = rw (lt-ltb s edge y, lt-ltb s high (omega arith))
+      go s t (no y) = rw (le-ltb s edge (omega arith), and-false (leb low s)) (and-false (leb low s && ltb s high))
+
+  -- which is how it is narrowed where there is no room
+  pub collected-narrowed : (new : List ℕ) (edge d : ℕ) → c ≤ length keys → length keys ≤ c → Narrowed keys low high new edge d → Collected plan low edge k new d
+  collected-narrowed new edge d a b n =
+      let e : length keys ≡ c = omega arith in
+      collected-narrow new edge d (n .inside) (subst (λ (x : ℕ). Kept keys x edge new d) e (n .kept))
 
 -- ---- one piece more
 
@@ -44,19 +85,14 @@ module _ (plan : List ℕ) (low high i : ℕ) (keys : List ℕ) (c s : ℕ) (h :
   start-is = sym e
 
   -- it begins elsewhere
-  pub put-outside : between low high s ≡ false → c ≤ length keys → Counted plan low high (i + 1) keys c
-  unfolding beginning heldIn keyed countBelow
-  put-outside b room =
+  pub put-outside : between low high s ≡ false → Collected plan low high (i + 1) keys c
+  unfolding begunThat countBelow
+  put-outside b =
       let b' : between low high (runAt plan i .start) ≡ false = rw start-is b in
       rw (add-one i)
       record {
-        fit = λ _.
-            record {
-              many = rw b' (omega (arith, h .many));
-              same = λ p. rw b' (omega (arith, h .same p));
-              each = λ v l. let w = h .each v l in (w .0, omega (arith, w .1), w .2, w .3);
-            };
-        over = λ l. absurd (omega arith);
+        same = λ t. rw b' (omega (arith, h .same t));
+        each = λ v l. let w = h .each v l in (w .0, omega (arith, w .1), w .2, w .3);
       }
 
   -- it begins in the window
@@ -64,10 +100,10 @@ module _ (plan : List ℕ) (low high i : ℕ) (keys : List ℕ) (c s : ℕ) (h :
     starts : between low high (runAt plan i .start) ≡ true
     starts = rw start-is (in-window low high s a b)
 
-    -- and has no room
-    pub put-over : length keys ≤ c → Counted plan low high (i + 1) keys (c + 1)
+    -- and others begin at the window's only place
+    pub put-crowded : high ≡ low + 1 → 0 < c → 1 < beginning plan low (low + 1) (i + 1)
     unfolding beginning countBelow
-    put-over full = rw (add-one i) record { fit = λ l. absurd (omega arith); over = λ _. rw starts (omega (arith, h .many)) }
+    put-crowded f l = rw (← f, add-one i, starts) (omega (arith, collected-many plan low high i keys c h))
 
     -- and has room
     module _ (n key : ℕ) (f : n ≡ numberAt plan (i * pieceSize + 30) 4) (small : n < above) (k : key ≡ s * above + n) (room : c < length keys) where
@@ -79,55 +115,28 @@ module _ (plan : List ℕ) (low high i : ℕ) (keys : List ℕ) (c s : ℕ) (h :
       unfolding keyOf
       key-is = rw (start-is, len-is) k
 
-      here : getD (set keys c key) c 0 ≡ key
-      here = getD-set-same keys c key 0 room
+      key-start : key / above ≡ s
+      key-start = omega arith
 
-      there : (v : ℕ) → v < c → getD (set keys c key) v 0 ≡ getD keys v 0
-      there v l = getD-set-other keys c v key 0 (λ x. omega arith)
+      key-len : key % above ≡ n
+      key-len = omega arith
 
-      holds-here : (p : ℕ) → spans (startAt (set keys c key) c) (lenAt (set keys c key) c) p ≡ holds (runAt plan i) p
-      unfolding spans holds
-      holds-here p =
-          let x : key / above ≡ s = omega arith in
-          let y : key % above ≡ n = omega arith in
-          rw (here, x, y, start-is, len-is)
-
-      keyed-before : (p : ℕ) → keyed (set keys c key) c p ≡ keyed keys c p
-      unfolding keyed
-      keyed-before p =
-          count-same (λ (v : ℕ). spans (startAt (set keys c key) v) (lenAt (set keys c key) v) p) (λ (v : ℕ). spans (startAt keys v) (lenAt keys v) p) c
-          (λ v l. rw (there v l))
-
-      pub put-inside : Counted plan low high (i + 1) (set keys c key) (c + 1)
-      unfolding beginning heldIn keyed countBelow
+      pub put-inside : Collected plan low high (i + 1) (set keys c key) (c + 1)
+      unfolding begunThat countBelow
       put-inside =
           rw (add-one i, add-one c)
           record {
-            fit = λ _.
-                record {
-                  many = rw starts (omega (arith, h .many));
-                  same = λ p. rw (starts, holds-here p) (omega (arith, h .same p, keyed-before p));
-                  each = λ v l. each v l (ℕ-discrete v c);
-                };
-            over = λ l. absurd (omega (arith, length-set keys c key));
+            same = λ t. rw (keys-more t keys c key room, key-start, key-len, starts, start-is, len-is) (omega (arith, h .same t));
+            each = λ v l. each v l (ℕ-discrete v c);
           }
         where
-          each : (v : ℕ) → v < suc c → Dec (v ≡ c) → (j : ℕ) × (j < suc i) × (runAt plan j .start < high) × (getD (set keys c key) v 0 ≡ keyOf (runAt plan j))
-          each v l (yes x) = (i, omega arith, rw start-is b, rw x here ∙ key-is)
+          each : (v : ℕ) → v < suc c → Dec (v ≡ c)
+              → (j : ℕ) × (j < suc i) × (startAt (set keys c key) v < high) × (getD (set keys c key) v 0 ≡ keyOf (runAt plan j))
+          each v l (yes x) =
+              let here = getD-set-same keys c key 0 room in
+              (i, omega arith, rw (x, here, key-start) b, rw x here ∙ key-is)
           each v l (no x) =
               let l' : v < c = omega arith in
+              let there = getD-set-other keys c v key 0 (λ y. omega arith) in
               let w = h .each v l' in
-              (w .0, omega (arith, w .1), w .2, there v l' ∙ w .3)
-
--- more than there is room for among the first k pieces are more among all
-pub over-more : (plan : List ℕ) (low high k n : ℕ) (keys : List ℕ) (c : ℕ) → k ≤ n → length keys < c → Counted plan low high k keys c → Counted plan low high n keys c
-unfolding beginning
-over-more plan low high k n keys c l o h =
-    record {
-      fit = λ x. absurd (omega arith);
-      over = λ x. omega (arith, h .over o, count-grows (λ (i : ℕ). between low high (runAt plan i .start)) k n l);
-    }
-
--- all that begin in the window have room
-pub found-fit : (plan : List ℕ) (low high k n : ℕ) (keys : List ℕ) (c : ℕ) → k ≡ n → c ≤ length keys → Collected plan low high k keys c → Counted plan low high n keys c
-found-fit plan low high k n keys c e l h = rw (← e) record { fit = λ _. h; over = λ x. absurd (omega arith) }
+              (w .0, omega (arith, w .1), rw there (w .2), there ∙ w .3)

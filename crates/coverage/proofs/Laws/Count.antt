@@ -53,6 +53,12 @@ module _ (t : ℕ → Bool) where
       go (yes e) f = rw e
       go (no e) f = omega (arith, f (omega arith), none-of (t n) (h n (omega arith) (omega arith)))
 
+-- all of them
+pub count-every : (n : ℕ) → countBelow (λ (i : ℕ). true) n ≡ n
+unfolding countBelow
+count-every zero = refl
+count-every (suc n) = omega (arith, count-every n)
+
 -- what passes one test passes the other
 pub count-less : (s t : ℕ → Bool) (n : ℕ) → ((i : ℕ) → i < n → s i ≡ true → t i ≡ true) → countBelow s n ≤ countBelow t n
 unfolding countBelow

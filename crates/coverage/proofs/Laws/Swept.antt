@@ -12,6 +12,7 @@ use Rattle.plans.specs.Piece.{piecesIn}
 use Rattle.coverage.specs.Held.{holders, firstNotOnce}
 use Rattle.coverage.specs.Inner.{Inside, runAt, whole, oneIf, heldIn, above, keyOf, startAt, filled, Collected, Lying, Chained}
 use Rattle.coverage.proofs.Laws.Held.{first-is, first-none}
+use Rattle.coverage.proofs.Laws.Collected.{collected-held}
 use Rattle.coverage.proofs.Laws.Windows.{inside-at, held-parts, held-none, held-before}
 
 -- the pieces that begin before `low` fill each place before `cur` once, and no other
@@ -42,14 +43,12 @@ module _ (plan : List ℕ) (n : ℕ) (inside : All (Inside n) (piecesIn plan)) (
 
   keys-begin : (v : ℕ) → v < c → startAt keys v < high
   keys-begin v l =
-      let w = h .each v l in
-      let i = inside-at plan n inside (w .0) (w .1) in
-      rw (w .3, key-start (runAt plan (w .0)) (omega (arith, i .within))) (w .2)
+      h .each v l .2
 
   module _ (cur q : ℕ) (s : Swept plan low cur) (l : low ≤ high) (d : Chained keys c cur q) where
     -- the keys of the window are added to what was filled before
     filled-is : (p : ℕ) → heldIn plan 0 high (whole plan) p ≡ filled keys c cur p
-    filled-is p = omega (arith, held-parts plan low high (whole plan) p l, s .held p, h .same p)
+    filled-is p = omega (arith, held-parts plan low high (whole plan) p l, s .held p, collected-held plan low high (whole plan) keys c h p)
 
     pub swept-stop : q < high → high ≤ n → q ≡ firstNotOnce (piecesIn plan) n
     swept-stop a b =

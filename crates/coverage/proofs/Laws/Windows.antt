@@ -2,7 +2,7 @@
 use Prim.Native.Nat.{ℕ, _+_, _≤_, _<_}
 use native.Mathlib.Omega.{arith}
 use native.Mathlib.Decide.{decLt}
-use mathlib.Core.Path.{_≡_, refl, sym, _∙_}
+use mathlib.Core.Path.{_≡_, refl, sym, subst, _∙_}
 use mathlib.Core.Bool.{Bool, true, false, _&&_, and-false}
 use mathlib.Core.List.{List}
 use lib.Dec.{leb, ltb}
@@ -16,8 +16,8 @@ use Rattle.runs.specs.Runs.{Run}
 use Rattle.plans.specs.Location.{Site}
 use Rattle.plans.specs.Piece.{pieceSize, decodeRun, piecesIn}
 use Rattle.coverage.specs.Held.{holds, holders}
-use Rattle.coverage.specs.Inner.{Inside, runAt, whole, oneIf, between, beginning, heldIn, Counted, Windowed}
-use Rattle.coverage.proofs.Laws.Count.{count-none, count-less, count-same, count-parts}
+use Rattle.coverage.specs.Inner.{Inside, runAt, whole, oneIf, between, beginning, heldIn, Collected, Windowed}
+use Rattle.coverage.proofs.Laws.Count.{count-none, count-less, count-same, count-parts, count-grows}
 use Rattle.coverage.proofs.Laws.Held.{holds-in, holds-both, holders-count}
 use Rattle.coverage.proofs.Laws.Collected.{in-window, before-window, behind-window}
 
@@ -32,32 +32,34 @@ unfolding piecesIn groups
 inside-at plan n h i l = groups-at decodeRun pieceSize (Inside n) plan 0 (whole plan) h i (omega arith) (omega arith)
 
 -- pieces that begin at one place all hold it
-pub begin-held : (plan : List ℕ) (n low high : ℕ) → All (Inside n) (piecesIn plan) → high ≡ low + 1 → beginning plan low high (whole plan) ≤ holders (piecesIn plan) low
+pub crowd-held : (plan : List ℕ) (n low : ℕ) → All (Inside n) (piecesIn plan) → 1 < beginning plan low (low + 1) (whole plan) → 1 < holders (piecesIn plan) low
 unfolding beginning
-begin-held plan n low high h e =
-    rw (holders-count plan low)
-    (count-less (λ (i : ℕ). between low high (runAt plan i .start)) (λ (i : ℕ). holds (runAt plan i) low) (whole plan) here)
+crowd-held plan n low h more =
+    let less = count-less (λ (i : ℕ). between low (low + 1) (runAt plan i .start)) (λ (i : ℕ). holds (runAt plan i) low) (whole plan) here in
+    rw (holders-count plan low) (omega arith)
   where
-    here : (i : ℕ) → i < whole plan → between low high (runAt plan i .start) ≡ true → holds (runAt plan i) low ≡ true
+    here : (i : ℕ) → i < whole plan → between low (low + 1) (runAt plan i .start) ≡ true → holds (runAt plan i) low ≡ true
     here i l b =
-        let w = between-both low high (runAt plan i .start) b in
+        let w = between-both low (low + 1) (runAt plan i .start) b in
         holds-in (runAt plan i) low (omega arith) (omega (arith, inside-at plan n h i l .some))
 
 -- ---- found
 
-pub window-found : (plan : List ℕ) (low base n : ℕ) (keys : List ℕ) (high c : ℕ) → low < high → high ≤ n → c ≤ length keys → Counted plan low high (whole plan) keys c
-    → Windowed plan low base n keys high c
-window-found plan low base n keys high c a b l f =
-    record { behind = omega arith; inside = b; room = l; crowded = λ e. absurd (omega arith); collected = λ _. f .fit l }
+module _ (plan : List ℕ) (low n k : ℕ) (keys : List ℕ) where
+  pub window-found : (high c : ℕ) → low < high → high ≤ n → c ≤ length keys → Collected plan low high k keys c → Windowed plan low n k keys high c
+  window-found high c a b l h = record { behind = omega arith; inside = b; room = l; crowded = λ e. absurd (omega arith); collected = λ _. h }
 
-pub window-none : (plan : List ℕ) (low base n : ℕ) (keys : List ℕ) → low ≤ n → (base ≡ low → 1 < holders (piecesIn plan) low) → Windowed plan low base n keys low 0
-window-none plan low base n keys a h =
-    record { behind = omega arith; inside = a; room = omega arith; crowded = λ _. h; collected = λ l. absurd (omega arith) }
+  pub window-none : low ≤ n → 1 < beginning plan low (low + 1) k → Windowed plan low n k keys low 0
+  window-none a h = record { behind = omega arith; inside = a; room = omega arith; crowded = λ _. h; collected = λ l. absurd (omega arith) }
 
--- one that is not empty may have been tried beyond any place
-pub window-some : (plan : List ℕ) (low base other n : ℕ) (keys : List ℕ) (high c : ℕ) → low < high → Windowed plan low base n keys high c → Windowed plan low other n keys high c
-window-some plan low base other n keys high c l w =
-    record { behind = w .behind; inside = w .inside; room = w .room; crowded = λ e. absurd (omega arith); collected = w .collected }
+  -- no piece is left
+  pub window-end : (m high c : ℕ) → k ≡ m → low < high → high ≤ n → c ≤ length keys → Collected plan low high k keys c → Windowed plan low n m keys high c
+  window-end m high c e a b l h = subst (λ (x : ℕ). Windowed plan low n x keys high c) e (window-found high c a b l h)
+
+-- as many of the first pieces as begin at a place do so among all
+pub crowd-grows : (plan : List ℕ) (low k m : ℕ) → k ≤ m → 1 < beginning plan low (low + 1) k → 1 < beginning plan low (low + 1) m
+unfolding beginning
+crowd-grows plan low k m l h = omega (arith, count-grows (λ (i : ℕ). between low (low + 1) (runAt plan i .start)) k m l)
 
 -- ---- windows side by side
 

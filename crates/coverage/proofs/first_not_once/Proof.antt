@@ -1,54 +1,51 @@
 -- `coverage::first_not_once` meets its contract. The invariant: the pieces that begin before `low` fill the places up to `cur`. Assumes nothing.
-use Prim.Native.Nat.{_-_, _≤_, _<_}
+use Prim.Native.Nat.{_-_, _≤_}
 use mathlib.Core.Path.{_≡_, refl}
 use native.Mathlib.Omega.{arith}
 use borrow.Author.Needs.{needs}
 use lib.ListN.{length}
 use Rattle.coverage.proofs.Laws.Swept.{Swept, swept-none, swept-crowded, swept-all, swept-stop, swept-more, keys-lie}
+use Rattle.coverage.proofs.Laws.Windows.{crowd-held}
 use Rattle.coverage.proofs.first_not_once.Statement.{statement}
 use Rattle.coverage.proofs.first_not_once.Tie as tie
 
 abbrev Inv-loop : tie.InvT-loop
-Inv-loop plan n keys₀ order₀ spare₀ width₀ low₀ cur₀ keys order spare width low cur =
+Inv-loop plan n keys₀ order₀ spare₀ low₀ cur₀ keys order spare low cur =
     (low ≤ n)
-    × (low < n → 0 < width)
     × (length keys ≡ length keys₀)
     × (length order ≡ length order₀)
     × (length spare ≡ length spare₀)
     × Swept plan low cur
 
 abbrev μ-loop : tie.MeasureT-loop
-μ-loop plan n keys₀ order₀ spare₀ width₀ low₀ cur₀ keys order spare width low cur = n - low
+μ-loop plan n keys₀ order₀ spare₀ low₀ cur₀ keys order spare low cur = n - low
 
 -- the function's entry
 abbrev started : tie.At-loop Inv-loop μ-loop → tie.Start Inv-loop μ-loop
-started c = c .before .before .before .before .before .before
+started c = c .before .before .before .before .before
 
 -- the turn in which a window was found; where it has places; where its keys are sorted
-abbrev turn-of : tie.After-next-window Inv-loop μ-loop → tie.In-loop Inv-loop μ-loop
+abbrev turn-of : tie.After-collect Inv-loop μ-loop → tie.In-loop Inv-loop μ-loop
 turn-of c = c .before .before
 
-abbrev window-of : tie.Else1 Inv-loop μ-loop → tie.After-next-window Inv-loop μ-loop
+abbrev window-of : tie.Else1 Inv-loop μ-loop → tie.After-collect Inv-loop μ-loop
 window-of c = c .before .before .before
 
 abbrev sort-of : tie.After-chain-arg2 Inv-loop μ-loop → tie.After-sort Inv-loop μ-loop
 sort-of c = c .before .before .before .before .before .before
 
 abbrev some-of : tie.After-sort Inv-loop μ-loop → tie.Else1 Inv-loop μ-loop
-some-of c = c .before .before .before .before .before
-
-first-width-requires : tie.Need-first-width-requires Inv-loop μ-loop
-first-width-requires c κs = (c .before .before .before .before .pre .1 .0, omega (arith, c .before .before .before .before .pre .1 .1 .1))
+some-of c = c .before .before .before .before
 
 loop-holds : tie.Need-loop-holds Inv-loop μ-loop
-loop-holds c = (omega arith, c .first-width .ensures, refl, refl, refl, swept-none _)
+loop-holds c = (omega arith, refl, refl, refl, swept-none _)
 
-next-window-requires : tie.Need-next-window-requires Inv-loop μ-loop
-next-window-requires c κs =
+collect-requires : tie.Need-collect-requires Inv-loop μ-loop
+collect-requires c κs =
     let turn = c .before in
     let inv = turn .before .loop .inv in
     let pre = started (turn .before) .pre in
-    (pre .0, (turn .loop-test .taken, inv .5 .reached, inv .1 (turn .loop-test .taken), omega (arith, pre .1 .1 .0, inv .2)))
+    (turn .loop-test .taken, omega (arith, pre .1 .1 .0, inv .1), omega (arith, pre .1 .1 .1, inv .1))
 
 same-length : tie.Need-same-length Inv-loop μ-loop
 same-length c = search needs
@@ -62,26 +59,21 @@ same-length-3 c = search needs
 returns : tie.Need-returns Inv-loop μ-loop
 returns c =
     let window = c .before .before .before in
-    let turn = window .before .before in
-    let found = window .next-window .ensures in
-    swept-crowded _ _ _ _ (turn .before .loop .inv .5) (turn .loop-test .taken) (found .crowded (omega (arith, c .if1 .taken, found .behind)) refl)
-
-next-width-requires : tie.Need-next-width-requires Inv-loop μ-loop
-next-width-requires c κs =
-    let window = window-of c in
-    let pre = started (turn-of window .before) .pre in
-    omega (arith, window .next-window .ensures .inside, pre .1 .0)
+    let turn = turn-of window in
+    let found = window .collect .ensures in
+    let crowd = found .crowded (omega (arith, c .if1 .taken, found .behind)) in
+    swept-crowded _ _ _ _ (turn .before .loop .inv .4) (turn .loop-test .taken) (crowd-held _ _ _ (started (turn .before) .pre .0) crowd)
 
 sort-requires : tie.Need-sort-requires Inv-loop μ-loop
 sort-requires c κs =
-    let window = window-of (c .before .before .before .before) in
+    let window = window-of (c .before .before .before) in
     let inv = turn-of window .before .loop .inv in
     let room = started (turn-of window .before) .pre .1 .1 in
-    let w = window .next-window in
-    let l = w .kept .1 .1 .1 .1 .1 .0 in
+    let w = window .collect in
+    let l = w .kept .1 .1 .1 .0 in
     let count = w .ensures .room in (
-      omega (arith, count, l, room .1, inv .2),
-      (count, (omega (arith, count, l, room .2, inv .2, inv .3), omega (arith, count, l, room .3, inv .2, inv .4))),
+      omega (arith, count, l, room .1, inv .1),
+      (count, (omega (arith, count, l, room .2, inv .1, inv .2), omega (arith, count, l, room .3, inv .1, inv .3))),
     )
 
 chain-requires : tie.Need-chain-requires Inv-loop μ-loop
@@ -91,10 +83,10 @@ chain-requires c κs =
     let window = window-of some in
     let inv = turn-of window .before .loop .inv in
     let pre = started (turn-of window .before) .pre in
-    let w = window .next-window in
+    let w = window .collect in
     let count = w .ensures .room in (
       count,
-      omega (arith, count, w .kept .1 .1 .1 .1 .1 .0, sort .sort .kept .1 .1 .0, pre .1 .1 .2, inv .2, inv .3),
+      omega (arith, count, w .kept .1 .1 .1 .0, sort .sort .kept .1 .1 .0, pre .1 .1 .2, inv .1, inv .2),
       sort .sort .ensures,
       keys-lie _ _ (pre .0) (pre .1 .0) _ _ _ _ (w .ensures .collected (some .if1 .left)),
     )
@@ -115,8 +107,8 @@ returns-2 c =
     let window = window-of some in
     let turn = turn-of window in
     let pre = started (turn .before) .pre in
-    let found = window .next-window .ensures in
-    swept-stop _ _ (pre .0) (pre .1 .0) _ _ _ _ (found .collected (some .if1 .left)) _ _ (turn .before .loop .inv .5) (found .behind) (chain .chain .ensures)
+    let found = window .collect .ensures in
+    swept-stop _ _ (pre .0) (pre .1 .0) _ _ _ _ (found .collected (some .if1 .left)) _ _ (turn .before .loop .inv .4) (found .behind) (chain .chain .ensures)
     (omega arith) (found .inside)
 
 loop-less : tie.Need-loop-less Inv-loop μ-loop
@@ -134,13 +126,12 @@ loop-again c =
     let turn = turn-of window in
     let inv = turn .before .loop .inv in
     let pre = started (turn .before) .pre in
-    let found = window .next-window .ensures in (
+    let found = window .collect .ensures in (
       found .inside,
-      λ _. sort .before .before .before .before .next-width .ensures,
-      omega (arith, window .next-window .kept .1 .1 .1 .1 .1 .0, inv .2),
-      omega (arith, sort .sort .kept .1 .1 .0, inv .3),
-      omega (arith, sort .sort .kept .1 .1 .1 .0, inv .4),
-      swept-more _ _ (pre .0) (pre .1 .0) _ _ _ _ (found .collected (some .if1 .left)) _ _ (inv .5) (found .behind) (chain .chain .ensures)
+      omega (arith, window .collect .kept .1 .1 .1 .0, inv .1),
+      omega (arith, sort .sort .kept .1 .1 .0, inv .2),
+      omega (arith, sort .sort .kept .1 .1 .1 .0, inv .3),
+      swept-more _ _ (pre .0) (pre .1 .0) _ _ _ _ (found .collected (some .if1 .left)) _ _ (inv .4) (found .behind) (chain .chain .ensures)
           (omega arith),
     )
 
@@ -154,7 +145,7 @@ same-length-9 : tie.Need-same-length-9 Inv-loop μ-loop
 same-length-9 c = search needs
 
 returns-3 : tie.Need-returns-3 Inv-loop μ-loop
-returns-3 c = swept-all _ _ _ _ (c .before .loop .inv .5) (c .loop-test .left)
+returns-3 c = swept-all _ _ _ _ (c .before .loop .inv .4) (c .loop-test .left)
 
 pub first-not-once-spec : {M : Type 1} → statement M
 first-not-once-spec =
@@ -162,14 +153,12 @@ first-not-once-spec =
     (tie.spec
     Inv-loop
     μ-loop
-    first-width-requires
     loop-holds
-    next-window-requires
+    collect-requires
     same-length
     same-length-2
     same-length-3
     returns
-    next-width-requires
     sort-requires
     chain-requires
     same-length-4

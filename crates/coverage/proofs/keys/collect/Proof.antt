@@ -1,36 +1,40 @@
 -- `coverage::keys::collect` meets its contract. The invariant: the keys are those of the first i pieces that begin in the window. Assumes nothing.
-use Prim.Native.Nat.{_-_, _≤_}
+use Prim.Native.Nat.{_-_, _≤_, _<_}
 use mathlib.Core.Path.{_≡_, refl}
 use native.Mathlib.Omega.{arith}
 use borrow.Author.Needs.{needs}
 use lib.ListN.{length}
 use Rattle.coverage.specs.Inner.{Collected}
-use Rattle.coverage.proofs.Laws.Collected.{collected-none, over-more, found-fit}
+use Rattle.coverage.proofs.Laws.Collected.{collected-none}
+use Rattle.coverage.proofs.Laws.Windows.{window-none, window-end, crowd-grows}
 use Rattle.coverage.proofs.keys.collect.Statement.{statement}
 use Rattle.coverage.proofs.keys.collect.Tie as tie
 
 abbrev Inv-loop : tie.InvT-loop
-Inv-loop plan low high keys₀ pieces count₀ i₀ keys count i =
-    (i ≤ pieces) × (count ≤ length keys) × (length keys ≡ length keys₀) × Collected plan low high i keys count
+Inv-loop plan low n keys₀ pieces high₀ count₀ i₀ keys high count i =
+    (i ≤ pieces) × (low < high) × (high ≤ n) × (count ≤ length keys) × (length keys ≡ length keys₀) × Collected plan low high i keys count
 
 abbrev μ-loop : tie.MeasureT-loop
-μ-loop plan low high keys₀ pieces count₀ i₀ keys count i = pieces - i
+μ-loop plan low n keys₀ pieces high₀ count₀ i₀ keys high count i = pieces - i
 
 loop-holds : tie.Need-loop-holds Inv-loop μ-loop
-loop-holds c = (omega arith, omega arith, refl, collected-none _ _ _ _)
+loop-holds c = (omega arith, c .before .before .pre .0, omega arith, omega arith, refl, collected-none _ _ _ _)
 
 put-requires : tie.Need-put-requires Inv-loop μ-loop
 put-requires c κs =
     let inv = c .before .before .loop .inv in
-    (omega arith, inv .1, inv .3)
+    let pre = c .before .before .before .before .before .pre in
+    ((omega arith, inv .1, inv .3), ((omega (arith, pre .1, inv .4), omega (arith, pre .2, inv .4)), inv .5))
 
 same-length : tie.Need-same-length Inv-loop μ-loop
 same-length c = search needs
 
 returns : tie.Need-returns Inv-loop μ-loop
 returns c =
-    let put = c .before .before .before .put in
-    over-more _ _ _ _ _ _ _ (omega arith) (c .if1 .taken) (put .ensures)
+    let put = c .before .before .before in
+    let found = put .put .ensures in
+    let inv = put .before .before .before .loop .inv in
+    window-none _ _ _ _ _ (omega (arith, inv .1, inv .2)) (crowd-grows _ _ _ _ (omega arith) (found .crowded (omega (arith, c .if1 .taken, found .behind))))
 
 add-i : tie.Need-add-i Inv-loop μ-loop
 add-i c = omega arith
@@ -40,8 +44,16 @@ loop-less c = omega arith
 
 loop-again : tie.Need-loop-again Inv-loop μ-loop
 loop-again c =
-    let put = c .before .before .before .put in
-    (omega arith, c .if1 .left, omega (arith, put .kept .1 .1 .1 .1 .0), put .ensures .fit (c .if1 .left))
+    let put = c .before .before .before in
+    let found = put .put .ensures in
+    let inv = put .before .before .before .loop .inv in (
+      omega arith,
+      c .if1 .left,
+      omega (arith, found .inside, inv .2),
+      found .room,
+      omega (arith, put .put .kept .1 .1 .1 .1 .0, inv .4),
+      found .collected (c .if1 .left),
+    )
 
 same-length-2 : tie.Need-same-length-2 Inv-loop μ-loop
 same-length-2 c = search needs
@@ -49,7 +61,7 @@ same-length-2 c = search needs
 returns-2 : tie.Need-returns-2 Inv-loop μ-loop
 returns-2 c =
     let inv = c .before .loop .inv in
-    found-fit _ _ _ _ _ _ _ (omega arith) (inv .1) (inv .3)
+    window-end _ _ _ _ _ _ _ _ (omega arith) (inv .1) (inv .2) (inv .3) (inv .5)
 
 pub collect-spec : {M : Type 1} → statement M
 collect-spec =
