@@ -30,28 +30,32 @@ impl Order {
     }
 }
 
-/// Where pieces are cut: anywhere in the read, or in crowds with wide gaps between them, each of more
-/// pieces than the library can hold at a time where there are many.
+/// Where pieces are cut: anywhere in the read; or in crowds with wide gaps between them, each of more
+/// pieces than the library can hold at a time where there are many; or mostly anywhere, the others
+/// in few such crowds.
 #[derive(Clone, Copy, Debug, PartialEq, Eq)]
 pub enum Spread {
     Even,
     Crowded,
+    Uneven,
 }
 
 impl Spread {
-    const CROWDS: u64 = 20;
-    const WIDTH: u64 = 5_500;
-
     fn place(self, length: u32, rng: &mut Rng) -> u32 {
         let length = u64::from(length);
         let place = match self {
             Spread::Even => rng.below(length),
-            Spread::Crowded => {
-                rng.below(Self::CROWDS) * (length / Self::CROWDS) + rng.below(Self::WIDTH)
-            }
+            Spread::Crowded => in_crowds(20, 5_500, length, rng),
+            Spread::Uneven if rng.below(10) < 7 => rng.below(length),
+            Spread::Uneven => in_crowds(5, 12_000, length, rng),
         };
         place as u32
     }
+}
+
+/// A place in one of so many crowds, each of a width in places.
+fn in_crowds(crowds: u64, width: u64, length: u64, rng: &mut Rng) -> u64 {
+    rng.below(crowds) * (length / crowds) + rng.below(width)
 }
 
 /// So many pieces, cut from those of a plan in order at random places; none where it has more.

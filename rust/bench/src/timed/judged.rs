@@ -26,11 +26,12 @@ struct Read {
     spread: Spread,
 }
 
-/// Of lists with few pieces, and of lists with many; and cut in crowds.
-fn reads() -> [Read; 6] {
+/// Of lists with few pieces, and of lists with many; and cut in crowds, or unevenly.
+fn reads() -> [Read; 8] {
     let [random, _, _, tiny, ..] = &SHAPES;
     let even = |name, shape, chunks| Read { name, shape, chunks, spread: Spread::Even };
     let crowded = |name, shape, chunks| Read { name, shape, chunks, spread: Spread::Crowded };
+    let uneven = |name, shape, chunks| Read { name, shape, chunks, spread: Spread::Uneven };
     [
         even("one chunk, random", random, 1),
         even("16 chunks, random", random, LISTS),
@@ -38,6 +39,8 @@ fn reads() -> [Read; 6] {
         even("16 chunks, tiny overwrites", tiny, LISTS),
         crowded("one chunk, random, cut in crowds", random, 1),
         crowded("16 chunks, random, cut in crowds", random, LISTS),
+        uneven("one chunk, random, cut unevenly", random, 1),
+        uneven("16 chunks, random, cut unevenly", random, LISTS),
     ]
 }
 
