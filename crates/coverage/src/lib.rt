@@ -3,7 +3,7 @@ mod chain;
 mod keys;
 mod windows;
 
-use sorting::sort;
+use sorting::sort_whole;
 ghost use mathlib.Core.Path.{_≡_};
 ghost use Prim.Native.Nat.{_≤_, _<_, _^_};
 ghost use lib.ListN.{length};
@@ -34,7 +34,7 @@ pub fn first_not_once(
         if high <= low {
             return low;
         }
-        sort(keys, window.count, order, spare);
+        sort_whole(keys, window.count, order, spare);
         cur = chain::chain(keys, order, window.count, cur);
         if cur < high {
             return cur;

@@ -31,10 +31,10 @@ turn-of c = c .before .before
 abbrev window-of : tie.Else1 Inv-loop μ-loop → tie.After-collect Inv-loop μ-loop
 window-of c = c .before .before .before
 
-abbrev sort-of : tie.After-chain-arg2 Inv-loop μ-loop → tie.After-sort Inv-loop μ-loop
+abbrev sort-of : tie.After-chain-arg2 Inv-loop μ-loop → tie.After-sort-whole Inv-loop μ-loop
 sort-of c = c .before .before .before .before .before .before
 
-abbrev some-of : tie.After-sort Inv-loop μ-loop → tie.Else1 Inv-loop μ-loop
+abbrev some-of : tie.After-sort-whole Inv-loop μ-loop → tie.Else1 Inv-loop μ-loop
 some-of c = c .before .before .before .before
 
 loop-holds : tie.Need-loop-holds Inv-loop μ-loop
@@ -64,8 +64,8 @@ returns c =
     let crowd = found .crowded (omega (arith, c .if1 .taken, found .behind)) in
     swept-crowded _ _ _ _ (turn .before .loop .inv .4) (turn .loop-test .taken) (crowd-held _ _ _ (started (turn .before) .pre .0) crowd)
 
-sort-requires : tie.Need-sort-requires Inv-loop μ-loop
-sort-requires c κs =
+sort-whole-requires : tie.Need-sort-whole-requires Inv-loop μ-loop
+sort-whole-requires c κs =
     let window = window-of (c .before .before .before) in
     let inv = turn-of window .before .loop .inv in
     let room = started (turn-of window .before) .pre .1 .1 in
@@ -86,8 +86,8 @@ chain-requires c κs =
     let w = window .collect in
     let count = w .ensures .room in (
       count,
-      omega (arith, count, w .kept .1 .1 .1 .0, sort .sort .kept .1 .1 .0, pre .1 .1 .2, inv .1, inv .2),
-      sort .sort .ensures,
+      omega (arith, count, w .kept .1 .1 .1 .0, sort .sort-whole .kept .1 .1 .0, pre .1 .1 .2, inv .1, inv .2),
+      sort .sort-whole .ensures,
       keys-lie _ _ (pre .0) (pre .1 .0) _ _ _ _ (w .ensures .collected (some .if1 .left)),
     )
 
@@ -129,8 +129,8 @@ loop-again c =
     let found = window .collect .ensures in (
       found .inside,
       omega (arith, window .collect .kept .1 .1 .1 .0, inv .1),
-      omega (arith, sort .sort .kept .1 .1 .0, inv .2),
-      omega (arith, sort .sort .kept .1 .1 .1 .0, inv .3),
+      omega (arith, sort .sort-whole .kept .1 .1 .0, inv .2),
+      omega (arith, sort .sort-whole .kept .1 .1 .1 .0, inv .3),
       swept-more _ _ (pre .0) (pre .1 .0) _ _ _ _ (found .collected (some .if1 .left)) _ _ (inv .4) (found .behind) (chain .chain .ensures)
           (omega arith),
     )
@@ -159,7 +159,7 @@ first-not-once-spec =
     same-length-2
     same-length-3
     returns
-    sort-requires
+    sort-whole-requires
     chain-requires
     same-length-4
     same-length-5
