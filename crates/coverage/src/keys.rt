@@ -10,7 +10,8 @@ ghost use Rattle.coverage.specs.Inner.{whole, Collected, Windowed};
 // A key has the place of a piece above its length, so that keys in order are pieces in order.
 pub(crate) const ABOVE: u64 = 4294967296;
 
-// Piece i is added to the keys of those before it where it begins in the window, which is narrowed where there is no room.
+// Piece i is added to the keys of those before it where it begins in the window, which is narrowed where there is no room; it becomes empty where others begin
+// at `low` too and fill the room.
 fn put(plan: &[u8], i: usize, low: u32, high: u32, keys: &mut [u64], count: usize) -> Window
     requires { ⌜ (i < whole (now plan)) × (low < high) × (count ≤ length (now keys)) ⌝ }
     requires { ⌜ (0 < length (now keys)) × (length (now keys) < 2 ^ 16) ⌝ }
