@@ -37,7 +37,7 @@ fn keep(keys: &mut [u64], high: u32) -> usize
     kept
 }
 
-// The mean of the places at which keys begin.
+// The mean of the places at which keys begin. It bears on the time alone, so nothing is promised of it.
 fn mean(keys: &[u64]) -> u64
     requires { ⌜ (0 < length (now keys)) × (length (now keys) < 2 ^ 16) ⌝ }
 {
@@ -50,7 +50,7 @@ fn mean(keys: &[u64]) -> u64
     sum / keys.len() as u64
 }
 
-// Where a window that goes up to `high` is cut: about half of the pieces begin before their mean, wherever they crowd.
+// Where a window that goes up to `high` is cut: at the mean, which lies where the pieces crowd. Wherever it is cut, the answer is the same.
 fn cut(keys: &[u64], low: u32, high: u32) -> u32
     requires { ⌜ (low < high) × (0 < length (now keys)) × (length (now keys) < 2 ^ 16) ⌝ }
     ensures { λ r. ⌜ (low < r) × (r ≤ high) ⌝ }

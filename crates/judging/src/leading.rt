@@ -40,7 +40,7 @@ fn comes_next(p: Piece, place: u32, k: u32, first: u32, from: u32, n: u32) -> bo
     false
 }
 
-// Whether piece `number` of a plan is such a piece.
+// Whether piece `number` of a plan is such a piece. It spares a list that is not needed, and nothing is promised of it.
 fn is_next(plan: &[u8], number: usize, place: u32, k: u32, first: u32, from: u32, n: u32) -> bool
     requires { ⌜ (number ≤ length (now plan) / pieceSize) × (from + n ≤ 2 ^ 30) ⌝ }
 {
