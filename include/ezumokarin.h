@@ -384,7 +384,8 @@ ezk_file_next ezk_next_file_piece(const uint8_t *lists, size_t lists_len, const 
  * Every list is checked first, also where the plan is wrong. Nothing is written, and plan may
  * overlap the lists. Right pieces in order are judged in one pass, also if they end too soon, and
  * each list that the read touches is resolved once. Otherwise there is one pass for each of these
- * lists, and then, if no piece is wrong, one for some 1,300 to 4,000 pieces, by how they stand.
+ * lists, and then, if no piece is wrong, about one for 1,000 to 4,000 pieces, by how they
+ * stand.
  * Refusals, in order: 21, 8, then list by list 1, 2, 3 to 6, 16.
  */
 ezk_judged ezk_judge_plan(const uint8_t *lists, size_t lists_len, const uint64_t *lengths,
