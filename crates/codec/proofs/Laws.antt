@@ -6,5 +6,8 @@ pub mod Fixed
 pub mod Groups
 pub mod Little
 pub mod Decimal
+pub mod Width
+pub mod Table
+pub mod Pairs
 pub mod Scan
 pub mod Steps

@@ -6,3 +6,4 @@ pub mod Little
 pub mod Decimal
 pub mod Scan
 pub mod Inner
+pub mod Pairs

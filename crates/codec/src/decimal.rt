@@ -1,28 +1,139 @@
 // Numbers as decimal text.
-use crate::put;
+use crate::pairs;
 ghost use mathlib.Core.Path.{_≡_};
 ghost use Prim.Native.Nat.{_+_, _≤_, _<_};
-ghost use lib.ListN.{length, drop};
+ghost use lib.ListN.{length};
 ghost use Rattle.codec.specs.Decimal.{maxDigits, decimal};
+ghost use Rattle.codec.specs.Inner.{Puts};
+ghost use Rattle.codec.specs.Pairs.{PairTable};
 ghost use Rattle.codec.specs.Splice.{splice};
 
 // The digits of the largest 64-bit number.
 pub const DIGITS: usize = 20;
 
-// Puts n's decimal digits at the end of out, and answers where they begin.
-fn digits(n: u64, out: &mut [u8]) -> usize
-    requires { ⌜ maxDigits ≤ length (now out) ⌝ }
-    ensures { λ r. ⌜ (r < length (now (out .entry))) × (drop r (now (out .exit)) ≡ decimal n) ⌝ }
+// How many digits a number of at most ten has.
+fn few_digits(n: u64) -> usize
+    requires { ⌜ n < 10000000000 ⌝ }
+    ensures { λ r. ⌜ r ≡ length (decimal n) ⌝ }
 {
-    let mut i = out.len() - 1;
-    let mut rest = n;
-    while 9 < rest {
-        out[i] = 48 + (rest % 10) as u8;
-        rest /= 10;
-        i -= 1;
+    if n < 100000 {
+        if n < 100 {
+            if n < 10 {
+                return 1;
+            }
+            return 2;
+        }
+        if n < 1000 {
+            return 3;
+        }
+        if n < 10000 {
+            return 4;
+        }
+        return 5;
     }
-    out[i] = 48 + (rest % 10) as u8;
-    i
+    if n < 10000000 {
+        if n < 1000000 {
+            return 6;
+        }
+        return 7;
+    }
+    if n < 100000000 {
+        return 8;
+    }
+    if n < 1000000000 {
+        return 9;
+    }
+    10
+}
+
+// How many digits a number of more than ten has.
+fn many_digits(n: u64) -> usize
+    requires { ⌜ 10000000000 ≤ n ⌝ }
+    ensures { λ r. ⌜ r ≡ length (decimal n) ⌝ }
+{
+    if n < 1000000000000000 {
+        if n < 1000000000000 {
+            if n < 100000000000 {
+                return 11;
+            }
+            return 12;
+        }
+        if n < 10000000000000 {
+            return 13;
+        }
+        if n < 100000000000000 {
+            return 14;
+        }
+        return 15;
+    }
+    if n < 100000000000000000 {
+        if n < 10000000000000000 {
+            return 16;
+        }
+        return 17;
+    }
+    if n < 1000000000000000000 {
+        return 18;
+    }
+    if n < 10000000000000000000 {
+        return 19;
+    }
+    20
+}
+
+// How many digits n has.
+pub fn digits(n: u64) -> usize
+    ensures { λ r. ⌜ (r ≡ length (decimal n)) × (r ≤ maxDigits) ⌝ }
+{
+    if n < 10000000000 {
+        few_digits(n)
+    } else {
+        many_digits(n)
+    }
+}
+
+// Puts a number below 100 into a buffer.
+fn put_few(out: &mut [u8], at: usize, n: u64, table: &[u8])
+    requires { ⌜ (n < 100) × (at + length (decimal n) ≤ length (now out)) × PairTable (now table) ⌝ }
+    ensures { λ _. ⌜ now (out .exit) ≡ splice (now (out .entry)) at (decimal n) ⌝ }
+{
+    if 9 < n {
+        pairs::put_pair(out, at, n, table);
+        return;
+    }
+    out[at] = 48 + n as u8;
+}
+
+// Puts a number below 10,000 into a buffer, where it ends at `end`.
+fn put_rest(out: &mut [u8], at: usize, end: usize, n: u64, table: &[u8])
+    requires { ⌜ (n < 10000) × (end ≡ at + length (decimal n)) × (end ≤ length (now out)) × PairTable (now table) ⌝ }
+    ensures { λ _. ⌜ now (out .exit) ≡ splice (now (out .entry)) at (decimal n) ⌝ }
+{
+    if n < 100 {
+        put_few(out, at, n, table);
+        return;
+    }
+    let next = n / 100;
+    pairs::put_pair(out, end - 2, n - next * 100, table);
+    put_few(out, at, next, table);
+}
+
+// Puts n, which has so many digits, into a buffer, and answers the place after it: four digits a turn, from the last. A turn divides twice,
+// and what is left is divided once if it has more than two digits: once for each two digits.
+pub fn put_digits(out: &mut [u8], at: usize, n: u64, width: usize, table: &[u8]) -> usize
+    requires { ⌜ (width ≡ length (decimal n)) × (at + width ≤ length (now out)) × PairTable (now table) ⌝ }
+    ensures { λ r. ⌜ Puts (now (out .entry)) at (decimal n) width r (now (out .exit)) ⌝ }
+{
+    let mut end = at + width;
+    let mut rest = n;
+    while 9999 < rest {
+        let next = rest / 10000;
+        end -= 4;
+        pairs::put_four(out, end, rest - next * 10000, table);
+        rest = next;
+    }
+    put_rest(out, at, end, rest, table);
+    at + width
 }
 
 // Puts n in decimal into a buffer that has room for any number from `at` on, and answers the place after it.
@@ -30,7 +141,7 @@ pub fn put_decimal(out: &mut [u8], at: usize, n: u64) -> usize
     requires { ⌜ at + maxDigits ≤ length (now out) ⌝ }
     ensures { λ r. ⌜ (r ≡ at + length (decimal n)) × (r ≤ at + maxDigits) × (now (out .exit) ≡ splice (now (out .entry)) at (decimal n)) ⌝ }
 {
-    let mut spelled = [0u8; DIGITS];
-    let from = digits(n, &mut spelled);
-    put::put(out, at, &spelled[from..])
+    let table = pairs::table();
+    let width = digits(n);
+    put_digits(out, at, n, width, &table)
 }

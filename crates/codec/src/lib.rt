@@ -2,5 +2,6 @@
 pub mod decimal;
 pub mod fixed;
 pub mod little;
+pub mod pairs;
 pub mod put;
 pub mod scan;

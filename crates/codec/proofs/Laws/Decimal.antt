@@ -105,11 +105,12 @@ spelled = decimal-ind Spelled
       leads = λ p. s .leads (omega arith);
     })
 
-tenfold : ℕ → ℕ
+-- the power of ten
+unfoldable pub tenfold : ℕ → ℕ
 tenfold zero = 1
 tenfold (suc k) = tenfold k * 10
 
-length-within : (n : ℕ) (k : ℕ) → n < tenfold (suc k) → length (decimal n) ≤ suc k
+pub length-within : (n : ℕ) (k : ℕ) → n < tenfold (suc k) → length (decimal n) ≤ suc k
 unfolding tenfold
 length-within = decimal-ind (λ n l. (k : ℕ) → n < tenfold (suc k) → length l ≤ suc k) (λ n h k g. omega arith) more
   where
