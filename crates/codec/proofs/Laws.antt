@@ -9,5 +9,6 @@ pub mod Decimal
 pub mod Width
 pub mod Table
 pub mod Pairs
+pub mod Thrice
 pub mod Scan
 pub mod Steps

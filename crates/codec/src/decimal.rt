@@ -5,7 +5,7 @@ ghost use Prim.Native.Nat.{_+_, _≤_, _<_};
 ghost use lib.ListN.{length};
 ghost use Rattle.codec.specs.Decimal.{maxDigits, decimal};
 ghost use Rattle.codec.specs.Inner.{Puts};
-ghost use Rattle.codec.specs.Pairs.{PairTable};
+ghost use Rattle.codec.specs.Pairs.{pair, PairTable};
 ghost use Rattle.codec.specs.Splice.{splice};
 
 // The digits of the largest 64-bit number.
@@ -134,6 +134,34 @@ pub fn put_digits(out: &mut [u8], at: usize, n: u64, width: usize, table: &[u8])
     }
     put_rest(out, at, end, rest, table);
     at + width
+}
+
+// Puts the two digits of n, below 100, at three places of a buffer, each behind the one before.
+fn put_pair_thrice(out: &mut [u8], a: usize, b: usize, c: usize, n: u64, table: &[u8])
+    requires { ⌜ (n < 100) × (a + 2 ≤ b) × (b + 2 ≤ c) × (c + 2 ≤ length (now out)) × PairTable (now table) ⌝ }
+    ensures { λ _. ⌜ now (out .exit) ≡ splice (splice (splice (now (out .entry)) c (pair n)) b (pair n)) a (pair n) ⌝ }
+{
+    pairs::put_pair(out, c, n, table);
+    pairs::put_pair(out, b, n, table);
+    pairs::put_pair(out, a, n, table);
+}
+
+// Puts n, which has so many digits, at three places of a buffer, each behind the one before: it is divided once for all three.
+pub fn put_thrice(out: &mut [u8], a: usize, b: usize, c: usize, n: u64, width: usize, table: &[u8])
+    requires { ⌜ (width ≡ length (decimal n)) × (a + width ≤ b) × (b + width ≤ c) × (c + width ≤ length (now out)) × PairTable (now table) ⌝ }
+    ensures { λ _. ⌜ now (out .exit) ≡ splice (splice (splice (now (out .entry)) c (decimal n)) b (decimal n)) a (decimal n) ⌝ }
+{
+    let mut i = width;
+    let mut rest = n;
+    while 99 < rest {
+        let next = rest / 100;
+        i -= 2;
+        put_pair_thrice(out, a + i, b + i, c + i, rest - next * 100, table);
+        rest = next;
+    }
+    put_few(out, c, rest, table);
+    put_few(out, b, rest, table);
+    put_few(out, a, rest, table);
 }
 
 // Puts n in decimal into a buffer that has room for any number from `at` on, and answers the place after it.

@@ -17,7 +17,7 @@ pub fn table() -> [u8; 200]
 }
 
 // Puts the two digits of n, below 100, into a buffer. Both are read before the first is stored, so that they are moved as one.
-pub(crate) fn put_pair(out: &mut [u8], at: usize, n: u64, table: &[u8])
+pub fn put_pair(out: &mut [u8], at: usize, n: u64, table: &[u8])
     requires { ⌜ (n < 100) × (at + 2 ≤ length (now out)) × PairTable (now table) ⌝ }
     ensures { λ _. ⌜ now (out .exit) ≡ splice (now (out .entry)) at (pair n) ⌝ }
 {
