@@ -1,18 +1,23 @@
 // The part of a name that says which object it is: all of a short name, and what follows the volume name of a full one.
 use crate::ObjectName;
 use crate::limits;
+use codec::decimal;
+use codec::pairs;
 use codec::scan::Step;
 use outcomes::refusals;
 use texts::MAX_NUMBER;
 use texts::scan;
 use texts::text;
 ghost use mathlib.Core.Path.{_≡_};
-ghost use mathlib.Core.List.{[]};
-ghost use Prim.Native.Nat.{_+_, _*_, _≤_, min, max};
+ghost use mathlib.Core.List.{[], _++_};
+ghost use Prim.Native.Nat.{_+_, _*_, _/_, _%_, _<_, _≤_, min, max};
 ghost use lib.ListN.{length};
+ghost use Rattle.codec.specs.Decimal.{decimal};
 ghost use Rattle.codec.specs.Inner.{Puts};
+ghost use Rattle.codec.specs.Pairs.{pair, four, PairTable};
+ghost use Rattle.codec.specs.Splice.{splice};
 ghost use Rattle.texts.specs.Parts.{onward, scan};
-ghost use Rattle.names.specs.Inner.{nameRoom};
+ghost use Rattle.names.specs.Inner.{nameRoom, slicePath};
 ghost use Rattle.texts.specs.Calls.{reading};
 ghost use Rattle.names.specs.Names.{nameForm, objectOf, objectAnswer, objectAllowed, objectName};
 
@@ -87,4 +92,36 @@ pub(crate) fn put(line: &mut [u8], at: usize, id: u64, block: u64, size: u64) ->
     let d = text::put_number_word(line, c, id, b"_");
     let e = text::put_number_word(line, d, block, b"_");
     text::put_number(line, e, size)
+}
+
+// Puts the last six digits of a slice behind its millions, and the first four of them behind those of its thousands: one too many, for two
+// digits are moved at a time. The slash takes its place.
+fn put_tails(line: &mut [u8], thousands: usize, id: usize, tail: u64, table: &[u8])
+    requires { ⌜ (tail < 1000000) × (thousands + 4 ≤ id) × (id + 6 ≤ length (now line)) × PairTable (now table) ⌝ }
+    ensures { λ _. ⌜ now (line .exit) ≡ splice (splice (now (line .entry)) id (pair (tail / 10000) ++ four (tail % 10000))) thousands (four (tail / 100)) ⌝ }
+{
+    let high = tail / 10000;
+    let four = tail - high * 10000;
+    let middle = four / 100;
+    let low = four - middle * 100;
+    pairs::put_pair(line, id, high, table);
+    pairs::put_pair(line, id + 2, middle, table);
+    pairs::put_pair(line, id + 4, low, table);
+    pairs::put_pair(line, thousands, high, table);
+    pairs::put_pair(line, thousands + 2, middle, table);
+}
+
+// Puts a slice of more than six digits: its millions are the first digits of all three numbers, and go to all three places at once.
+fn put_long(line: &mut [u8], at: usize, id: u64, width: usize, table: &[u8]) -> usize
+    requires { ⌜ (6 < width) × (width ≡ length (decimal id)) × (at + length (slicePath id) ≤ length (now line)) × PairTable (now table) ⌝ }
+    ensures { λ r. ⌜ Puts (now (line .entry)) at (slicePath id) (length (slicePath id)) r (now (line .exit)) ⌝ }
+{
+    let top = id / 1000000;
+    let x = at + (width - 6);
+    let y = x + 1 + (width - 3);
+    decimal::put_thrice(line, at, x + 1, y + 1, top, width - 6, table);
+    put_tails(line, y - 3, y + width - 5, id - top * 1000000, table);
+    line[x] = b'/';
+    line[y] = b'/';
+    y + 1 + width
 }
