@@ -1,5 +1,6 @@
 -- Laws of the definitions of specs/.
 pub mod Volume
 pub mod Names
+pub mod Length
 pub mod Full
 pub mod Claims
