@@ -1,7 +1,6 @@
--- Inner: the room that a line of the code has. It serves the contracts of inner functions alone. Assumes nothing.
-use Prim.Native.Nat.{ℕ, _+_, _*_}
-use Rattle.codec.specs.Decimal.{maxDigits}
+-- Inner: how long a text is that the code writes. It serves the contracts of inner functions alone. Assumes nothing.
+use Prim.Native.Nat.{ℕ, _+_}
 
--- the room that a Redis key takes at most: two words of one byte, two numbers
-abbrev pub redisRoom : ℕ
-redisRoom = 2 + 2 * maxDigits
+-- the bytes of a Redis key whose numbers have i and j digits: two words of one byte, two numbers
+abbrev pub redisLength : ℕ → ℕ → ℕ
+redisLength i j = 2 + (i + j)

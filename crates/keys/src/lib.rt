@@ -1,8 +1,10 @@
 // Chunk keys: those of Redis, which are text, and those of the TKV engines, which are 14 bytes.
 mod limits;
 
+use codec::decimal;
 use codec::fixed;
 use codec::little;
+use codec::pairs;
 use codec::scan::Step;
 use outcomes::Answer;
 use outcomes::Refusal;
@@ -14,11 +16,12 @@ use texts::text;
 ghost use mathlib.Core.Path.{_≡_};
 ghost use Prim.Native.Nat.{_≤_};
 ghost use lib.ListN.{length};
+ghost use Rattle.codec.specs.Decimal.{decimal};
 ghost use Rattle.codec.specs.Splice.{splice};
 ghost use Rattle.codec.specs.Inner.{Puts};
 ghost use Rattle.outcomes.specs.Answers.{Answers};
 ghost use Rattle.keys.specs.Limits.{tkvSize};
-ghost use Rattle.keys.specs.Inner.{redisRoom};
+ghost use Rattle.keys.specs.Inner.{redisLength};
 ghost use Rattle.keys.specs.Keys.{redisKey, readRedis, writeRedis, tkvKey, tkvShape, readTkv, writeTkv, chunkAnswer};
 
 // What a chunk key names: a chunk of a file, or the refusal.
@@ -27,14 +30,15 @@ pub enum ChunkKey {
     Refused(Refusal),
 }
 
-// Puts a Redis key into a line.
-fn put_redis(line: &mut [u8], inode: u64, index: u64) -> usize
-    requires { ⌜ redisRoom ≤ length (now line) ⌝ }
-    ensures { λ r. ⌜ Puts (now (line .entry)) 0 (redisKey inode index) redisRoom r (now (line .exit)) ⌝ }
+// Puts a Redis key to the front of a buffer; its numbers have so many digits.
+fn put_redis(out: &mut [u8], inode: u64, index: u64, i: usize, j: usize) -> usize
+    requires { ⌜ (i ≡ length (decimal inode)) × (j ≡ length (decimal index)) × (redisLength i j ≤ length (now out)) ⌝ }
+    ensures { λ r. ⌜ Puts (now (out .entry)) 0 (redisKey inode index) (redisLength i j) r (now (out .exit)) ⌝ }
 {
-    let a = text::put_word(line, 0, b"c");
-    let b = text::put_number_word(line, a, inode, b"_");
-    text::put_number(line, b, index)
+    let table = pairs::table();
+    let a = text::put_word(out, 0, b"c");
+    let b = text::put_number_word(out, a, inode, i, &table, b"_");
+    decimal::put_digits(out, b, index, j, &table)
 }
 
 // Writes the Redis key of a chunk.
@@ -44,9 +48,13 @@ pub fn write_redis_key(inode: u64, index: u64, out: &mut [u8]) -> Answer
     if MAX_INDEX < index {
         return Answer::Refused(refusals::refusal(refusals::NOT_OF_FORM));
     }
-    let mut line = [0u8; limits::REDIS_ROOM];
-    let n = put_redis(&mut line, inode, index);
-    outcomes::deliver(&line[..n], out)
+    let i = decimal::digits(inode);
+    let j = decimal::digits(index);
+    if out.len() < limits::REDIS_WORDS + (i + j) {
+        return Answer::Refused(refusals::refusal(refusals::SHORT_BUFFER));
+    }
+    let n = put_redis(out, inode, index, i, j);
+    Answer::Wrote(n)
 }
 
 // The chunk that a Redis key names.

@@ -1,8 +1,6 @@
-// The limits on chunk keys, and the room that they take.
-use codec::decimal::DIGITS;
-
-// Room for a Redis key: two words, two numbers.
-pub(crate) const REDIS_ROOM: usize = 2 + 2 * DIGITS;
+// The lengths of chunk keys.
+// The bytes of the two words of a Redis key.
+pub(crate) const REDIS_WORDS: usize = 2;
 
 // The bytes of a TKV key.
 pub(crate) const TKV: usize = 14;

@@ -10,14 +10,14 @@ use texts::scan;
 use texts::text;
 ghost use mathlib.Core.Path.{_≡_};
 ghost use mathlib.Core.List.{[], _++_};
-ghost use Prim.Native.Nat.{_+_, _*_, _/_, _%_, _<_, _≤_, min, max};
+ghost use Prim.Native.Nat.{_+_, _-_, _*_, _/_, _%_, _<_, _≤_, min, max};
 ghost use lib.ListN.{length};
-ghost use Rattle.codec.specs.Decimal.{decimal};
+ghost use Rattle.codec.specs.Decimal.{maxDigits, decimal};
 ghost use Rattle.codec.specs.Inner.{Puts};
 ghost use Rattle.codec.specs.Pairs.{pair, four, PairTable};
 ghost use Rattle.codec.specs.Splice.{splice};
 ghost use Rattle.texts.specs.Parts.{onward, scan};
-ghost use Rattle.names.specs.Inner.{nameRoom, slicePath};
+ghost use Rattle.names.specs.Inner.{nameLength, slicePath, Widths};
 ghost use Rattle.texts.specs.Calls.{reading};
 ghost use Rattle.names.specs.Names.{nameForm, objectOf, objectAnswer, objectAllowed, objectName};
 
@@ -81,21 +81,40 @@ pub(crate) fn allowed(id: u64, block: u64, size: u64) -> bool
     size <= limits::MAX_LENGTH
 }
 
-// Puts the name of an object into a line.
-pub(crate) fn put(line: &mut [u8], at: usize, id: u64, block: u64, size: u64) -> usize
-    requires { ⌜ at + nameRoom ≤ length (now line) ⌝ }
-    ensures { λ r. ⌜ Puts (now (line .entry)) at (objectName id block size) nameRoom r (now (line .exit)) ⌝ }
+// How many digits the whole thousandth of a number has that has so many.
+fn thousandth(width: usize) -> usize
+    ensures { λ r. ⌜ r ≡ max 1 (width - 3) ⌝ }
 {
-    let a = text::put_word(line, at, b"chunks/");
-    let b = text::put_number_word(line, a, id / 1000 / 1000, b"/");
-    let c = text::put_number_word(line, b, id / 1000, b"/");
-    let d = text::put_number_word(line, c, id, b"_");
-    let e = text::put_number_word(line, d, block, b"_");
-    text::put_number(line, e, size)
+    if width <= 3 {
+        return 1;
+    }
+    width - 3
 }
 
-// Puts the last six digits of a slice behind its millions, and the first four of them behind those of its thousands: one too many, for two
-// digits are moved at a time. The slash takes its place.
+// How many bytes a name has whose id, block and size have i, b and s digits.
+pub(crate) fn length(i: usize, b: usize, s: usize) -> usize
+    requires { ⌜ (i ≤ maxDigits) × (b ≤ maxDigits) × (s ≤ maxDigits) ⌝ }
+    ensures { λ r. ⌜ (r ≡ nameLength i b s) × (r ≤ 11 + 5 * maxDigits) ⌝ }
+{
+    let thousands = thousandth(i);
+    let millions = thousandth(thousands);
+    limits::WORDS + millions + thousands + i + b + s
+}
+
+// Puts a slice, one number after the other: one of at most six digits, whose millions are 0, and not the first digits of the others.
+fn put_short(line: &mut [u8], at: usize, id: u64, width: usize, table: &[u8]) -> usize
+    requires { ⌜ (width ≡ length (decimal id)) × (at + length (slicePath id) ≤ length (now line)) × PairTable (now table) ⌝ }
+    ensures { λ r. ⌜ Puts (now (line .entry)) at (slicePath id) (length (slicePath id)) r (now (line .exit)) ⌝ }
+{
+    let thousands = thousandth(width);
+    let millions = thousandth(thousands);
+    let a = text::put_number_word(line, at, id / 1000 / 1000, millions, table, b"/");
+    let b = text::put_number_word(line, a, id / 1000, thousands, table, b"/");
+    decimal::put_digits(line, b, id, width, table)
+}
+
+// Puts the six digits that follow a slice's millions: all at `id`, and the first four at `thousands`. The fourth is one too many there, for two
+// digits are moved at a time; the slash is stored in its place.
 fn put_tails(line: &mut [u8], thousands: usize, id: usize, tail: u64, table: &[u8])
     requires { ⌜ (tail < 1000000) × (thousands + 4 ≤ id) × (id + 6 ≤ length (now line)) × PairTable (now table) ⌝ }
     ensures { λ _. ⌜ now (line .exit) ≡ splice (splice (now (line .entry)) id (pair (tail / 10000) ++ four (tail % 10000))) thousands (four (tail / 100)) ⌝ }
@@ -124,4 +143,37 @@ fn put_long(line: &mut [u8], at: usize, id: u64, width: usize, table: &[u8]) -> 
     line[x] = b'/';
     line[y] = b'/';
     y + 1 + width
+}
+
+// Puts a slice into a buffer as it stands in names: its millions, its thousands and its id.
+fn put_slice(line: &mut [u8], at: usize, id: u64, width: usize, table: &[u8]) -> usize
+    requires { ⌜ (width ≡ length (decimal id)) × (at + length (slicePath id) ≤ length (now line)) × PairTable (now table) ⌝ }
+    ensures { λ r. ⌜ Puts (now (line .entry)) at (slicePath id) (length (slicePath id)) r (now (line .exit)) ⌝ }
+{
+    if 6 < width {
+        return put_long(line, at, id, width, table);
+    }
+    put_short(line, at, id, width, table)
+}
+
+// Puts the name of an object into a buffer. Its id, block and size have i, b and s digits.
+pub(crate) fn put(
+    line: &mut [u8],
+    at: usize,
+    id: u64,
+    block: u64,
+    size: u64,
+    i: usize,
+    b: usize,
+    s: usize,
+    table: &[u8],
+) -> usize
+    requires { ⌜ Widths id block size i b s × (at + length (objectName id block size) ≤ length (now line)) × PairTable (now table) ⌝ }
+    ensures { λ r. ⌜ Puts (now (line .entry)) at (objectName id block size) (length (objectName id block size)) r (now (line .exit)) ⌝ }
+{
+    let slice = text::put_word(line, at, b"chunks/");
+    let bar = put_slice(line, slice, id, i, table);
+    let second = text::put_word(line, bar, b"_");
+    let third = text::put_number_word(line, second, block, b, table, b"_");
+    decimal::put_digits(line, third, size, s, table)
 }

@@ -3,17 +3,19 @@ mod block;
 mod limits;
 mod volume;
 
+use codec::decimal;
+use codec::pairs;
 use outcomes::Answer;
 use outcomes::Refusal;
 use outcomes::refusals;
 use texts::scan;
 use texts::text;
 ghost use mathlib.Core.Path.{_≡_};
-ghost use Prim.Native.Nat.{_+_, _≤_};
+ghost use Prim.Native.Nat.{_≤_};
 ghost use lib.ListN.{length};
 ghost use Rattle.codec.specs.Inner.{Puts};
 ghost use Rattle.outcomes.specs.Answers.{Answers};
-ghost use Rattle.names.specs.Inner.{nameRoom};
+ghost use Rattle.names.specs.Inner.{Widths};
 ghost use Rattle.names.specs.Names.{readObject, objectAnswer, writeObject, readFull, fullAnswer, volumePart, writeFull, fullName};
 
 // What an object name names: a block of a slice, or the refusal.
@@ -26,13 +28,19 @@ pub enum ObjectName {
 pub fn write_object_name(id: u64, block: u64, size: u64, out: &mut [u8]) -> Answer
     ensures { λ r. ⌜ Answers (writeObject id block size (length (now (out .entry)))) (now (out .entry)) r (now (out .exit)) ⌝ }
 {
-    if block::allowed(id, block, size) {
-        let mut line = [0u8; limits::NAME_ROOM];
-        let n = block::put(&mut line, 0, id, block, size);
-        outcomes::deliver(&line[..n], out)
-    } else {
-        Answer::Refused(refusals::refusal(refusals::NOT_OF_FORM))
+    if !block::allowed(id, block, size) {
+        return Answer::Refused(refusals::refusal(refusals::NOT_OF_FORM));
     }
+    let i = decimal::digits(id);
+    let b = decimal::digits(block);
+    let s = decimal::digits(size);
+    let n = block::length(i, b, s);
+    if out.len() < n {
+        return Answer::Refused(refusals::refusal(refusals::SHORT_BUFFER));
+    }
+    let table = pairs::table();
+    let end = block::put(out, 0, id, block, size, i, b, s, &table);
+    Answer::Wrote(end)
 }
 
 // The object that a short name names.
@@ -42,14 +50,24 @@ pub fn read_object_name(name: &[u8]) -> ObjectName
     block::read(name, scan::start())
 }
 
-// Puts a full name into a line.
-fn put_full(line: &mut [u8], volume: &[u8], id: u64, block: u64, size: u64) -> usize
-    requires { ⌜ length (now volume) + (1 + nameRoom) ≤ length (now line) ⌝ }
-    ensures { λ r. ⌜ Puts (now (line .entry)) 0 (fullName (now (volume .entry)) id block size) (length (now (volume .entry)) + (1 + nameRoom)) r (now (line .exit)) ⌝ }
+// Puts a full name to the front of a buffer. Its id, block and size have i, b and s digits.
+fn put_full(
+    out: &mut [u8],
+    volume: &[u8],
+    id: u64,
+    block: u64,
+    size: u64,
+    i: usize,
+    b: usize,
+    s: usize,
+) -> usize
+    requires { ⌜ Widths id block size i b s × (length (fullName (now volume) id block size) ≤ length (now out)) ⌝ }
+    ensures { λ r. ⌜ Puts (now (out .entry)) 0 (fullName (now (volume .entry)) id block size) (length (fullName (now (volume .entry)) id block size)) r (now (out .exit)) ⌝ }
 {
-    let a = text::put_word(line, 0, volume);
-    let b = text::put_word(line, a, b"/");
-    block::put(line, b, id, block, size)
+    let table = pairs::table();
+    let slash = text::put_word(out, 0, volume);
+    let at = text::put_word(out, slash, b"/");
+    block::put(out, at, id, block, size, i, b, s, &table)
 }
 
 // Writes the full name of an object: its volume's name, a slash and its short name.
@@ -62,9 +80,15 @@ pub fn write_full_name(volume: &[u8], id: u64, block: u64, size: u64, out: &mut 
     if !block::allowed(id, block, size) {
         return Answer::Refused(refusals::refusal(refusals::NOT_OF_FORM));
     }
-    let mut line = [0u8; limits::FULL_ROOM];
-    let n = put_full(&mut line, volume, id, block, size);
-    outcomes::deliver(&line[..n], out)
+    let i = decimal::digits(id);
+    let b = decimal::digits(block);
+    let s = decimal::digits(size);
+    let n = block::length(i, b, s);
+    if out.len() < volume.len() + (1 + n) {
+        return Answer::Refused(refusals::refusal(refusals::SHORT_BUFFER));
+    }
+    let end = put_full(out, volume, id, block, size, i, b, s);
+    Answer::Wrote(end)
 }
 
 // The object that a full name names.

@@ -1,6 +1,4 @@
-// The limits on names, and the room that they take.
-use codec::decimal::DIGITS;
-
+// The limits on names.
 // The largest number of a block.
 pub(crate) const MAX_BLOCK: u64 = 1023;
 
@@ -10,8 +8,5 @@ pub(crate) const MAX_LENGTH: u64 = 16777216;
 // The most bytes of a volume name.
 pub(crate) const MAX_VOLUME: usize = 63;
 
-// Room for an object name: five words, of 11 bytes together, and five numbers.
-pub(crate) const NAME_ROOM: usize = 11 + 5 * DIGITS;
-
-// Room for a full name: a volume name, a slash and an object name.
-pub(crate) const FULL_ROOM: usize = MAX_VOLUME + 1 + NAME_ROOM;
+// The bytes of the words of an object name: `chunks/`, and four words of one byte.
+pub(crate) const WORDS: usize = 11;

@@ -1,13 +1,15 @@
-// Making a text in a line.
+// Making a text in a buffer.
 use codec::decimal;
 use codec::put;
+ghost use mathlib.Core.Path.{_≡_};
 ghost use mathlib.Core.List.{_++_};
 ghost use Prim.Native.Nat.{_+_, _≤_};
 ghost use lib.ListN.{length};
-ghost use Rattle.codec.specs.Decimal.{maxDigits, decimal};
+ghost use Rattle.codec.specs.Decimal.{decimal};
 ghost use Rattle.codec.specs.Inner.{Puts};
+ghost use Rattle.codec.specs.Pairs.{PairTable};
 
-// Puts a word into a line.
+// Puts a word into a buffer.
 pub fn put_word(line: &mut [u8], at: usize, word: &[u8]) -> usize
     requires { ⌜ at + length (now word) ≤ length (now line) ⌝ }
     ensures { λ r. ⌜ Puts (now (line .entry)) at (now (word .entry)) (length (now (word .entry))) r (now (line .exit)) ⌝ }
@@ -15,19 +17,18 @@ pub fn put_word(line: &mut [u8], at: usize, word: &[u8]) -> usize
     put::put(line, at, word)
 }
 
-// Puts n in decimal into a line.
-pub fn put_number(line: &mut [u8], at: usize, n: u64) -> usize
-    requires { ⌜ at + maxDigits ≤ length (now line) ⌝ }
-    ensures { λ r. ⌜ Puts (now (line .entry)) at (decimal n) maxDigits r (now (line .exit)) ⌝ }
+// Puts n, which has so many digits, and the word after it, into a buffer.
+pub fn put_number_word(
+    line: &mut [u8],
+    at: usize,
+    n: u64,
+    width: usize,
+    table: &[u8],
+    word: &[u8],
+) -> usize
+    requires { ⌜ (width ≡ length (decimal n)) × (at + (width + length (now word)) ≤ length (now line)) × PairTable (now table) ⌝ }
+    ensures { λ r. ⌜ Puts (now (line .entry)) at (decimal n ++ now (word .entry)) (width + length (now (word .entry))) r (now (line .exit)) ⌝ }
 {
-    decimal::put_decimal(line, at, n)
-}
-
-// Puts n in decimal, and the word after it, into a line.
-pub fn put_number_word(line: &mut [u8], at: usize, n: u64, word: &[u8]) -> usize
-    requires { ⌜ at + (maxDigits + length (now word)) ≤ length (now line) ⌝ }
-    ensures { λ r. ⌜ Puts (now (line .entry)) at (decimal n ++ now (word .entry)) (maxDigits + length (now (word .entry))) r (now (line .exit)) ⌝ }
-{
-    let end = put_number(line, at, n);
+    let end = decimal::put_digits(line, at, n, width, table);
     put_word(line, end, word)
 }

@@ -43,7 +43,7 @@ abbrev pub thrice : List ℕ → ℕ → ℕ → ℕ → List ℕ → List ℕ
 thrice out a b c s = splice (splice (splice out c s) b s) a s
 
 -- what was put behind at each place, and then what stands before it
-pub thrice-before : (out : List ℕ) (a b c k : ℕ) (p s : List ℕ) → length p ≡ k → a + k + length s ≤ b → b + k + length s ≤ c → c + k + length s ≤ length out
+thrice-before : (out : List ℕ) (a b c k : ℕ) (p s : List ℕ) → length p ≡ k → a + k + length s ≤ b → b + k + length s ≤ c → c + k + length s ≤ length out
     → thrice (thrice out (a + k) (b + k) (c + k) s) a b c p ≡ thrice out a b c (p ++ s)
 thrice-before out a b c k p s e h₁ h₂ h₃ =
     let o₁ = splice out (c + k) s in

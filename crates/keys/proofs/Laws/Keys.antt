@@ -7,7 +7,8 @@ use mathlib.Core.Logic.{_↔_}
 use mathlib.Core.List.{List, [], _∷_, append-nil}
 use borrow.Author.Tests.{le-leb, lt-leb, leb-true}
 use lib.Dec.{leb}
-use Rattle.codec.specs.Decimal.{digitOf}
+use lib.ListN.{length, length-append}
+use Rattle.codec.specs.Decimal.{decimal, digitOf}
 use Rattle.outcomes.specs.Numbers.{notOfForm}
 use Rattle.outcomes.specs.Outcome.{refused, done, refusal}
 use Rattle.texts.specs.Limits.{maxNumber}
@@ -16,6 +17,7 @@ use Rattle.texts.specs.Parts.{write}
 use Rattle.texts.specs.Calls.{WriterRefuses}
 use Rattle.texts.specs.Inverse.{Inverse, Any}
 use Rattle.keys.specs.Keys.{Chunk, chunk, chunkAllowed, redisKey, redisForm, chunkOf, readRedis, writeRedis}
+use Rattle.keys.specs.Inner.{redisLength}
 use Rattle.texts.proofs.Laws.Parts.{apart, ends, Allowed, allowed, allowing}
 use Rattle.texts.proofs.Laws.Shows.{Shows, shows-inverse}
 use Rattle.texts.proofs.Laws.Calls.{writer-refuses}
@@ -40,6 +42,12 @@ chunk-allowed i j r = simp (le-leb i maxNumber (r .inode), le-leb j maxIndex (r 
 pub chunk-large : (i j : ℕ) → i ≤ maxNumber → maxIndex < j → chunkAllowed i j ≡ false
 unfolding chunkAllowed
 chunk-large i j k h = simp (le-leb i maxNumber k, lt-leb j maxIndex h)
+
+-- ---- its length
+
+pub redis-length : (inode index : ℕ) → length (redisKey inode index) ≡ redisLength (length (decimal inode)) (length (decimal index))
+unfolding redisKey
+redis-length inode index = simp length-append (omega arith)
 
 -- ---- the form
 

@@ -7,6 +7,9 @@ use borrow.Author.Needs.{needs}
 use Rattle.keys.proofs.put_redis.Statement.{statement}
 use Rattle.keys.proofs.put_redis.Tie as tie
 
+table-requires : tie.Need-table-requires
+table-requires c κs = search needs
+
 slice-aggregate-put-word : tie.Need-slice-aggregate-put-word
 slice-aggregate-put-word c = search needs
 
@@ -16,11 +19,17 @@ put-word-requires c κs = search needs
 slice-aggregate-put-number-word : tie.Need-slice-aggregate-put-number-word
 slice-aggregate-put-number-word c = search needs
 
+slice-aggregate-put-number-word-2 : tie.Need-slice-aggregate-put-number-word-2
+slice-aggregate-put-number-word-2 c = search needs
+
 put-number-word-requires : tie.Need-put-number-word-requires
 put-number-word-requires c κs = search needs
 
-put-number-requires : tie.Need-put-number-requires
-put-number-requires c κs = search needs
+slice-aggregate-put-digits : tie.Need-slice-aggregate-put-digits
+slice-aggregate-put-digits c = search needs
+
+put-digits-requires : tie.Need-put-digits-requires
+put-digits-requires c κs = search needs
 
 same-length : tie.Need-same-length
 same-length c = search needs
@@ -28,17 +37,23 @@ same-length c = search needs
 returns : tie.Need-returns
 unfolding redisKey
 returns c =
-    let a = c .before .before .before .before .before .before .before .before .before .before .before .before .before .before .before .args in
-    puts-as (redisKey (a .inode) (a .index)) (puts-then (puts-then (c .before .before .before .before .before .before .before .before .before .before .before .put-word .ensures) (c .before .before .before .before .before .before .put-number-word .ensures) (omega arith)) (c .before .before .put-number .ensures) (omega arith)) (simp append-assoc) (omega arith)
+    let s = c .before .before .before .before .before .before .before .before .before .before .before .before .before .before .before .before .before .before in
+    let p1 = c .before .before .before .before .before .before .before .before .before .before .before .before .before .put-word .ensures in
+    let p2 = puts-then p1 (c .before .before .before .before .before .before .before .put-number-word .ensures) (omega (arith, s .pre .2)) in
+    let p3 = puts-then p2 (c .before .before .put-digits .ensures) (omega (arith, s .pre .2)) in
+    puts-as (redisKey (s .args .inode) (s .args .index)) p3 (simp append-assoc) (omega arith)
 
 pub put-redis-spec : {M : Type 1} → statement M
 put-redis-spec =
     tie.close
     (tie.spec
+    table-requires
     slice-aggregate-put-word
     put-word-requires
     slice-aggregate-put-number-word
+    slice-aggregate-put-number-word-2
     put-number-word-requires
-    put-number-requires
+    slice-aggregate-put-digits
+    put-digits-requires
     same-length
     returns)

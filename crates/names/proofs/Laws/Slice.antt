@@ -16,11 +16,13 @@ use Rattle.codec.proofs.Laws.Decimal.{tenfold, length-within, decimal-more}
 use Rattle.codec.proofs.Laws.Pairs.{decimal-pairs, decimal-fours}
 use Rattle.codec.proofs.Laws.Splice.{length-splice, splice-one, splice-then, splice-before, splices-2}
 use Rattle.codec.proofs.Laws.Thrice.{splice-swap, thrice}
+use Rattle.codec.proofs.Laws.Width.{thousandth-width}
+use Rattle.names.proofs.Laws.Length.{millionth-width, slice-length}
 
 -- ---- digits
 
 -- more than six digits are those of a million and more
-pub million : (id : ℕ) → 6 < length (decimal id) → 999999 < id
+million : (id : ℕ) → 6 < length (decimal id) → 999999 < id
 unfolding tenfold
 million id h = go (decLt id 1000000)
   where
@@ -36,7 +38,7 @@ module _ (id tail : ℕ) (h : 999999 < id) (t : tail ≡ id - id / 1000000 * 100
       decimal-pairs (id / 10000) (omega arith) ∙ (λ i. decimal (a i) ++ pair (b i))
 
   -- the millions, and six digits more
-  pub id-digits : decimal id ≡ decimal (id / 1000000) ++ (pair (tail / 10000) ++ four (tail % 10000))
+  id-digits : decimal id ≡ decimal (id / 1000000) ++ (pair (tail / 10000) ++ four (tail % 10000))
   id-digits =
       let a : id % 10000 ≡ tail % 10000 = omega arith in
       decimal-fours id (omega arith)
@@ -44,7 +46,7 @@ module _ (id tail : ℕ) (h : 999999 < id) (t : tail ≡ id - id / 1000000 * 100
       ∙ append-assoc (decimal (id / 1000000)) (pair (tail / 10000)) (four (tail % 10000))
 
   -- the millions, and the first three of them
-  pub thousands-digits : decimal (id / 1000) ++ ((48 + tail / 100 % 100 % 10) ∷ []) ≡ decimal (id / 1000000) ++ four (tail / 100)
+  thousands-digits : decimal (id / 1000) ++ ((48 + tail / 100 % 100 % 10) ∷ []) ≡ decimal (id / 1000000) ++ four (tail / 100)
   thousands-digits =
       let a : id / 1000 / 10 ≡ id / 10000 = omega arith in
       let b : id / 1000 % 10 ≡ tail / 100 % 100 / 10 = omega arith in
@@ -52,12 +54,6 @@ module _ (id tail : ℕ) (h : 999999 < id) (t : tail ≡ id - id / 1000000 * 100
       let e : decimal (id / 1000) ≡ (decimal (id / 1000000) ++ pair (tail / 100 / 100)) ++ ((48 + tail / 100 % 100 / 10) ∷ []) =
       decimal-more (id / 1000) (omega arith) ∙ (λ i. (ap decimal a ∙ hundreds ∙ ap (λ (m : ℕ). decimal (id / 1000000) ++ pair m) c) i ++ ((48 + b i) ∷ [])) in
       ap (λ (l : List ℕ). l ++ ((48 + tail / 100 % 100 % 10) ∷ [])) e ∙ simp append-assoc
-
-  pub millions-width : length (decimal (id / 1000000)) + 6 ≡ length (decimal id)
-  millions-width = let e = simp length-append at (ap length id-digits) in omega arith
-
-  pub thousands-width : length (decimal (id / 1000000)) + 3 ≡ length (decimal (id / 1000))
-  thousands-width = let e = simp length-append at (ap length thousands-digits) in omega arith
 
 -- ---- places
 
@@ -144,7 +140,7 @@ module _ (line : List ℕ) (at x y p q : ℕ) (top some rest thousands id : List
       ∙ s₄
       ∙ ap (splice line at) (simp append-assoc)
 
-  pub slice-placed : {o₁ o₂ : List ℕ} → o₁ ≡ thrice line at (x + 1) (y + 1) top → o₂ ≡ splice (splice o₁ q rest) p some
+  slice-placed : {o₁ o₂ : List ℕ} → o₁ ≡ thrice line at (x + 1) (y + 1) top → o₂ ≡ splice (splice o₁ q rest) p some
       → set (set o₂ x 47) y 47 ≡ splice line at (top ++ (slash ++ (thousands ++ (slash ++ id))))
   slice-placed e₁ e₂ =
       ap (λ (o : List ℕ). set (set o x 47) y 47) (e₂ ∙ ap (λ (o : List ℕ). splice o p some) (ap (λ (o : List ℕ). splice o q rest) e₁ ∙ behind) ∙ between) ∙ slashes
@@ -176,18 +172,21 @@ module _ (id width : ℕ) (long : 6 < width) (is-width : width ≡ length (decim
   above : 999999 < id
   above = million id (omega arith)
 
+  millionth : id / 1000 / 1000 ≡ id / 1000000
+  millionth = omega arith
+
   pub top-width : width - 6 ≡ length (decimal (id / 1000000))
-  top-width = omega (arith, millions-width id (id - id / 1000000 * 1000000) above refl)
+  top-width = omega (arith, millionth-width id) ∙ ap (λ (m : ℕ). length (decimal m)) millionth
 
   mid-width : width - 3 ≡ length (decimal (id / 1000))
-  mid-width = omega (arith, millions-width id (id - id / 1000000 * 1000000) above refl, thousands-width id (id - id / 1000000 * 1000000) above refl)
+  mid-width = omega (arith, thousandth-width id)
+
+  pub path-length : length (slicePath id) ≡ width - 6 + 1 + (width - 3) + 1 + width
+  path-length = omega (arith, slice-length id, millionth-width id, thousandth-width id)
 
   path : slicePath id ≡ decimal (id / 1000000) ++ (slash ++ (decimal (id / 1000) ++ (slash ++ decimal id)))
   unfolding slicePath
-  path = let e : id / 1000 / 1000 ≡ id / 1000000 = omega arith in ap (λ (m : ℕ). decimal m ++ (slash ++ (decimal (id / 1000) ++ (slash ++ decimal id)))) e
-
-  pub path-length : length (slicePath id) ≡ width - 6 + 1 + (width - 3) + 1 + width
-  path-length = ap length path ∙ simp length-append (omega (arith, top-width, mid-width))
+  path = ap (λ (m : ℕ). decimal m ++ (slash ++ (decimal (id / 1000) ++ (slash ++ decimal id)))) millionth
 
   -- what `put_long` stores
   pub puts-long : (line : List ℕ) {o₁ o₂ : List ℕ} (at x y tail : ℕ) → at + length (slicePath id) ≤ length line → tail ≡ id - id / 1000000 * 1000000

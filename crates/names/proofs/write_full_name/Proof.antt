@@ -1,24 +1,18 @@
--- `names::write_full_name` meets its contract: an allowed volume name and numbers are put into a line and delivered. Assumes nothing.
+-- `names::write_full_name` meets its contract: a volume name or numbers that are not allowed are refused, then too short a buffer; else the name
+-- is put into it. Assumes nothing.
 use native.Mathlib.Omega.{arith}
-use Prim.Native.Nat.{_≤_}
 use mathlib.Core.Path.{_≡_, sym, _∙_}
 use mathlib.Core.Bool.{true, false}
 use borrow.Author.Tests.{not-true, not-false}
-use lib.ListN.{length, length-take}
 use denote.Ref.{now}
-use Rattle.names.specs.Limits.{maxVolume}
 use Rattle.names.specs.Volume.{volumeAllowed}
 use Rattle.names.specs.Names.{objectAllowed, fullAllowed, fullName}
-use Rattle.codec.proofs.Laws.Splice.{puts-front}
-use Rattle.names.proofs.Laws.Volume.{right}
-use Rattle.texts.proofs.Laws.Calls.{answers-not, answers-line}
+use Rattle.names.specs.Inner.{Widths}
+use Rattle.names.proofs.Laws.Length.{name-length, full-length}
+use Rattle.texts.proofs.Laws.Calls.{answers-not, answers-short, answers-put}
 use borrow.Author.Needs.{needs}
 use Rattle.names.proofs.write_full_name.Statement.{statement}
 use Rattle.names.proofs.write_full_name.Tie as tie
-
--- a volume name is short
-small : (c : tie.After-line) → length (now (c .before .before .before .before .before .before .before .args .volume)) ≤ maxVolume
-small c = right (now (c .before .before .before .before .before .before .before .args .volume)) (sym (c .before .before .before .before .allowed .ensures) ∙ not-false _ (c .before .before .before .if1 .left)) .most
 
 allowed-requires : tie.Need-allowed-requires
 allowed-requires c κs = search needs
@@ -47,31 +41,53 @@ returns-2 c =
     let o : objectAllowed (a .id) (a .block) (a .size) ≡ false = sym (c .before .before .allowed2 .ensures) ∙ not-true _ (c .before .if2 .taken) in
     answers-not (fullAllowed (now (a .volume)) (a .id) (a .block) (a .size)) (fullName (now (a .volume)) (a .id) (a .block) (a .size)) (now (a .out)) _ (rw (v, o)) (c .refusal2 .ensures)
 
-slice-aggregate-put-full : tie.Need-slice-aggregate-put-full
-slice-aggregate-put-full c = search needs
+digits-requires : tie.Need-digits-requires
+digits-requires c κs = search needs
 
-put-full-requires : tie.Need-put-full-requires
-put-full-requires c κs = omega (arith, small c)
+digits-requires-2 : tie.Need-digits-requires-2
+digits-requires-2 c κs = search needs
 
-array-share-prefix-line : tie.Need-array-share-prefix-line
-array-share-prefix-line c = let p = c .before .put-full in omega (arith, p .ensures .ends, p .ensures .fits, p .kept .0, small (c .before .before))
+digits-requires-3 : tie.Need-digits-requires-3
+digits-requires-3 c κs = search needs
 
-slice-aggregate-deliver : tie.Need-slice-aggregate-deliver
-slice-aggregate-deliver c = simp length-take (omega (arith, array-share-prefix-line (c .before)))
+length-requires : tie.Need-length-requires
+length-requires c κs = search needs
 
-deliver-requires : tie.Need-deliver-requires
-deliver-requires c κs = search needs
+add-if3 : tie.Need-add-if3
+add-if3 c = search needs
 
-same-length : tie.Need-same-length
-same-length c = search needs
+add-if3-2 : tie.Need-add-if3-2
+add-if3-2 c = search needs
+
+refusal-requires-3 : tie.Need-refusal-requires-3
+refusal-requires-3 c κs = search needs
 
 returns-3 : tie.Need-returns-3
 unfolding fullAllowed
 returns-3 c =
-    let a = c .before .before .before .before .before .before .before .before .before .before .before .before .before .before .args in
-    let v : volumeAllowed (now (a .volume)) ≡ true = sym (c .before .before .before .before .before .before .before .before .before .before .before .allowed .ensures) ∙ not-false _ (c .before .before .before .before .before .before .before .before .before .before .if1 .left) in
-    let o : objectAllowed (a .id) (a .block) (a .size) ≡ true = sym (c .before .before .before .before .before .before .before .before .before .allowed2 .ensures) ∙ not-false _ (c .before .before .before .before .before .before .before .before .if2 .left) in
-    answers-line (fullAllowed (now (a .volume)) (a .id) (a .block) (a .size)) (fullName (now (a .volume)) (a .id) (a .block) (a .size)) _ (now (a .out)) _ _ (rw (v, o)) (puts-front (c .before .before .before .before .before .before .put-full .ensures)) (c .before .before .deliver .ensures)
+    let a = c .before .before .before .before .before .before .before .before .before .before .before .before .args in
+    let v : volumeAllowed (now (a .volume)) ≡ true = sym (c .before .before .before .before .before .before .before .before .before .allowed .ensures) ∙ not-false _ (c .before .before .before .before .before .before .before .before .if1 .left) in
+    let o : objectAllowed (a .id) (a .block) (a .size) ≡ true = sym (c .before .before .before .before .before .before .before .allowed2 .ensures) ∙ not-false _ (c .before .before .before .before .before .before .if2 .left) in
+    let w : Widths (a .id) (a .block) (a .size) _ _ _ = record { of-id = c .before .before .before .before .before .digits .ensures .0; of-block = c .before .before .before .before .digits2 .ensures .0; of-size = c .before .before .before .digits3 .ensures .0 } in
+    answers-short (fullAllowed (now (a .volume)) (a .id) (a .block) (a .size)) (fullName (now (a .volume)) (a .id) (a .block) (a .size)) (now (a .out)) _ (rw (v, o)) (omega (arith, full-length (a .id) (a .block) (a .size) (now (a .volume)), name-length (a .id) (a .block) (a .size) w, c .before .before .length .ensures .0, c .before .if3 .taken)) (c .refusal3 .ensures)
+
+put-full-requires : tie.Need-put-full-requires
+put-full-requires c κs =
+    let a = c .before .before .before .before .before .before .before .before .before .before .before .before .args in
+    let w : Widths (a .id) (a .block) (a .size) _ _ _ = record { of-id = c .before .before .before .before .before .digits .ensures .0; of-block = c .before .before .before .before .digits2 .ensures .0; of-size = c .before .before .before .digits3 .ensures .0 } in
+    (w, omega (arith, full-length (a .id) (a .block) (a .size) (now (a .volume)), name-length (a .id) (a .block) (a .size) w, c .before .before .length .ensures .0, c .before .if3 .left))
+
+same-length : tie.Need-same-length
+same-length c = search needs
+
+returns-4 : tie.Need-returns-4
+unfolding fullAllowed
+returns-4 c =
+    let a = c .before .before .before .before .before .before .before .before .before .before .before .before .before .before .before .args in
+    let v : volumeAllowed (now (a .volume)) ≡ true = sym (c .before .before .before .before .before .before .before .before .before .before .before .before .allowed .ensures) ∙ not-false _ (c .before .before .before .before .before .before .before .before .before .before .before .if1 .left) in
+    let o : objectAllowed (a .id) (a .block) (a .size) ≡ true = sym (c .before .before .before .before .before .before .before .before .before .before .allowed2 .ensures) ∙ not-false _ (c .before .before .before .before .before .before .before .before .before .if2 .left) in
+    let w : Widths (a .id) (a .block) (a .size) _ _ _ = record { of-id = c .before .before .before .before .before .before .before .before .digits .ensures .0; of-block = c .before .before .before .before .before .before .before .digits2 .ensures .0; of-size = c .before .before .before .before .before .before .digits3 .ensures .0 } in
+    answers-put (fullAllowed (now (a .volume)) (a .id) (a .block) (a .size)) (fullName (now (a .volume)) (a .id) (a .block) (a .size)) (now (a .out)) _ _ _ (rw (v, o)) (omega (arith, full-length (a .id) (a .block) (a .size) (now (a .volume)), name-length (a .id) (a .block) (a .size) w, c .before .before .before .before .before .length .ensures .0, c .before .before .before .before .if3 .left)) (c .before .before .put-full .ensures)
 
 pub write-full-name-spec : {M : Type 1} → statement M
 write-full-name-spec =
@@ -83,10 +99,14 @@ write-full-name-spec =
     allowed-requires-2
     refusal-requires-2
     returns-2
-    slice-aggregate-put-full
+    digits-requires
+    digits-requires-2
+    digits-requires-3
+    length-requires
+    add-if3
+    add-if3-2
+    refusal-requires-3
+    returns-3
     put-full-requires
-    array-share-prefix-line
-    slice-aggregate-deliver
-    deliver-requires
     same-length
-    returns-3)
+    returns-4)

@@ -8,13 +8,14 @@ use mathlib.Core.List.{List, [], _∷_}
 use borrow.Author.Tests.{ltb-true, ltb-false, lt-ltb, le-ltb}
 use lib.Dec.{ltb}
 use lib.ListN.{length}
+use Rattle.codec.specs.Inner.{Puts}
 use Rattle.outcomes.specs.Numbers.{notOfForm, shortBuffer}
 use Rattle.outcomes.specs.Outcome.{Outcome, refused, done, refusal, firstOf, tooShort}
 use Rattle.outcomes.specs.Answers.{Answers}
 use Rattle.outcomes.specs.declared.Refusal.{Refusal}
 use Rattle.outcomes.specs.declared.Answer.{Answer}
-use Rattle.outcomes.specs.declared.Answer.the-variants.{Refused}
-use Rattle.outcomes.proofs.Laws.Answers.{answers-refused}
+use Rattle.outcomes.specs.declared.Answer.the-variants.{Wrote, Refused}
+use Rattle.outcomes.proofs.Laws.Answers.{answers-refused, answers-done}
 use Rattle.texts.specs.Parts.{Scan, found, stop}
 use Rattle.texts.specs.Calls.{writeText, reading, WriterRefuses}
 
@@ -77,6 +78,17 @@ answers-not allowed text out r e n = answers-refused _ r out (write-not allowed 
 pub answers-line : (allowed : Bool) (text line out after : List ℕ) (a : Answer) → allowed ≡ true → line ≡ text
     → Answers (firstOf (tooShort line (length out) ∷ []) (done line)) out a after → Answers (writeText allowed text (length out)) out a after
 answers-line allowed text line out after a e l r = rw (write-room allowed text (length out) e, ← l) r
+
+-- the buffer is too short for an allowed text
+pub answers-short : (allowed : Bool) (text out : List ℕ) (r : Refusal) → allowed ≡ true → length out < length text → r ≡ refusal shortBuffer 0
+    → Answers (writeText allowed text (length out)) out (Refused r) out
+answers-short allowed text out r e h n = answers-refused _ r out (write-12 allowed text (length out) .1 (e, h) ∙ ap refused (sym n))
+
+-- an allowed text was put straight into the buffer
+pub answers-put : (allowed : Bool) (text out after : List ℕ) (room n : ℕ) → allowed ≡ true → length text ≤ length out → Puts out 0 text room n after
+    → Answers (writeText allowed text (length out)) out (Wrote n) after
+answers-put allowed text out after room n e h p =
+    answers-done _ text out after n (write-done allowed text (length out) .1 (e, h)) (omega (arith, p .ends)) (p .leaves)
 
 -- ---- reading
 

@@ -1,7 +1,7 @@
 -- `codec::decimal::put_rest` meets its contract: the last pair, and before it what is left. Assumes nothing.
 use Rattle.codec.proofs.Laws.Pairs.{decimal-pairs, pairs-width, put-before}
 use native.Mathlib.Omega.{arith}
-use Prim.Native.Nat.{ℕ, _+_, _-_, _*_, _/_, _%_}
+use Prim.Native.Nat.{ℕ, _-_, _*_, _/_, _%_}
 use mathlib.Core.Path.{_≡_, sym, ap, _∙_}
 use denote.Ref.{now}
 use Rattle.codec.specs.Decimal.{decimal}

@@ -5,8 +5,8 @@ use borrow.Author.Needs.{needs}
 use Rattle.texts.proofs.text.put_number_word.Statement.{statement}
 use Rattle.texts.proofs.text.put_number_word.Tie as tie
 
-put-number-requires : tie.Need-put-number-requires
-put-number-requires c κs = search needs
+put-digits-requires : tie.Need-put-digits-requires
+put-digits-requires c κs = search needs
 
 put-word-requires : tie.Need-put-word-requires
 put-word-requires c κs = search needs
@@ -15,8 +15,8 @@ same-length : tie.Need-same-length
 same-length c = search needs
 
 returns : tie.Need-returns
-returns c = puts-then (c .before .before .before .before .before .before .put-number .ensures) (c .before .before .put-word .ensures) (omega arith)
+returns c = puts-then (c .before .before .before .before .before .before .put-digits .ensures) (c .before .before .put-word .ensures) (omega arith)
 
 pub put-number-word-spec : {M : Type 1} → statement M
 put-number-word-spec =
-    tie.close (tie.spec put-number-requires put-word-requires same-length returns)
+    tie.close (tie.spec put-digits-requires put-word-requires same-length returns)
