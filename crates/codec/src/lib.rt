@@ -5,3 +5,4 @@ pub mod little;
 pub mod pairs;
 pub mod put;
 pub mod scan;
+pub mod width;

@@ -6,6 +6,7 @@ use codec::fixed;
 use codec::little;
 use codec::pairs;
 use codec::scan::Step;
+use codec::width;
 use outcomes::Answer;
 use outcomes::Refusal;
 use outcomes::refusals;
@@ -48,8 +49,8 @@ pub fn write_redis_key(inode: u64, index: u64, out: &mut [u8]) -> Answer
     if MAX_INDEX < index {
         return Answer::Refused(refusals::refusal(refusals::NOT_OF_FORM));
     }
-    let i = decimal::digits(inode);
-    let j = decimal::digits(index);
+    let i = width::digits(inode);
+    let j = width::digits(index);
     if out.len() < limits::REDIS_WORDS + (i + j) {
         return Answer::Refused(refusals::refusal(refusals::SHORT_BUFFER));
     }

@@ -101,14 +101,13 @@ pub(crate) fn length(i: usize, b: usize, s: usize) -> usize
     limits::WORDS + millions + thousands + i + b + s
 }
 
-// Puts a slice, one number after the other: one of at most six digits, whose millions are 0, and not the first digits of the others.
+// Puts a slice of at most six digits, whose millions are 0, one number after the other.
 fn put_short(line: &mut [u8], at: usize, id: u64, width: usize, table: &[u8]) -> usize
-    requires { ⌜ (width ≡ length (decimal id)) × (at + length (slicePath id) ≤ length (now line)) × PairTable (now table) ⌝ }
+    requires { ⌜ (width ≤ 6) × (width ≡ length (decimal id)) × (at + length (slicePath id) ≤ length (now line)) × PairTable (now table) ⌝ }
     ensures { λ r. ⌜ Puts (now (line .entry)) at (slicePath id) (length (slicePath id)) r (now (line .exit)) ⌝ }
 {
     let thousands = thousandth(width);
-    let millions = thousandth(thousands);
-    let a = text::put_number_word(line, at, id / 1000 / 1000, millions, table, b"/");
+    let a = text::put_word(line, at, b"0/");
     let b = text::put_number_word(line, a, id / 1000, thousands, table, b"/");
     decimal::put_digits(line, b, id, width, table)
 }

@@ -3,8 +3,8 @@ mod block;
 mod limits;
 mod volume;
 
-use codec::decimal;
 use codec::pairs;
+use codec::width;
 use outcomes::Answer;
 use outcomes::Refusal;
 use outcomes::refusals;
@@ -31,9 +31,9 @@ pub fn write_object_name(id: u64, block: u64, size: u64, out: &mut [u8]) -> Answ
     if !block::allowed(id, block, size) {
         return Answer::Refused(refusals::refusal(refusals::NOT_OF_FORM));
     }
-    let i = decimal::digits(id);
-    let b = decimal::digits(block);
-    let s = decimal::digits(size);
+    let i = width::digits(id);
+    let b = width::digits(block);
+    let s = width::digits(size);
     let n = block::length(i, b, s);
     if out.len() < n {
         return Answer::Refused(refusals::refusal(refusals::SHORT_BUFFER));
@@ -80,9 +80,9 @@ pub fn write_full_name(volume: &[u8], id: u64, block: u64, size: u64, out: &mut 
     if !block::allowed(id, block, size) {
         return Answer::Refused(refusals::refusal(refusals::NOT_OF_FORM));
     }
-    let i = decimal::digits(id);
-    let b = decimal::digits(block);
-    let s = decimal::digits(size);
+    let i = width::digits(id);
+    let b = width::digits(block);
+    let s = width::digits(size);
     let n = block::length(i, b, s);
     if out.len() < volume.len() + (1 + n) {
         return Answer::Refused(refusals::refusal(refusals::SHORT_BUFFER));

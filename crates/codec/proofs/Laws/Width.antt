@@ -13,7 +13,7 @@ unfolding tenfold
 tenfold-some zero = omega arith
 tenfold-some (suc k) = omega (arith, tenfold-some k)
 
-length-beyond : (n : ℕ) (k : ℕ) → tenfold k ≤ n → k < length (decimal n)
+pub length-beyond : (n : ℕ) (k : ℕ) → tenfold k ≤ n → k < length (decimal n)
 unfolding tenfold
 length-beyond = decimal-ind (λ n l. (k : ℕ) → tenfold k ≤ n → k < length l) one more
   where

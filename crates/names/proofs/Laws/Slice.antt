@@ -12,11 +12,11 @@ use Rattle.codec.specs.Splice.{splice}
 use Rattle.codec.specs.Inner.{Puts}
 use Rattle.texts.specs.Words.{slash}
 use Rattle.names.specs.Inner.{slicePath}
-use Rattle.codec.proofs.Laws.Decimal.{tenfold, length-within, decimal-more}
+use Rattle.codec.proofs.Laws.Decimal.{tenfold, length-within, decimal-digit, decimal-more}
 use Rattle.codec.proofs.Laws.Pairs.{decimal-pairs, decimal-fours}
 use Rattle.codec.proofs.Laws.Splice.{length-splice, splice-one, splice-then, splice-before, splices-2}
 use Rattle.codec.proofs.Laws.Thrice.{splice-swap, thrice}
-use Rattle.codec.proofs.Laws.Width.{thousandth-width}
+use Rattle.codec.proofs.Laws.Width.{thousandth-width, length-beyond}
 use Rattle.names.proofs.Laws.Length.{millionth-width, slice-length}
 
 -- ---- digits
@@ -29,6 +29,20 @@ million id h = go (decLt id 1000000)
     go : Dec (id < 1000000) → 999999 < id
     go (yes l) = absurd (omega (arith, length-within id 5 (omega arith)))
     go (no l) = omega arith
+
+-- at most six are those of less, whose millions are 0
+pub no-millions : (id : ℕ) → length (decimal id) ≤ 6 → decimal (id / 1000 / 1000) ≡ 48 ∷ []
+unfolding tenfold
+no-millions id h = go (decLt id 1000000)
+  where
+    go : Dec (id < 1000000) → decimal (id / 1000 / 1000) ≡ 48 ∷ []
+    go (yes l) = let z : id / 1000 / 1000 ≡ 0 = omega arith in ap decimal z ∙ decimal-digit 0 (omega arith)
+    go (no l) = absurd (omega (arith, length-beyond id 6 (omega arith)))
+
+-- such a slice by the parts that the code puts
+pub short-parts : (id : ℕ) → length (decimal id) ≤ 6 → ((48 ∷ slash) ++ (decimal (id / 1000) ++ slash)) ++ decimal id ≡ slicePath id
+unfolding slicePath
+short-parts id h = rw (no-millions id h) (simp append-assoc)
 
 module _ (id tail : ℕ) (h : 999999 < id) (t : tail ≡ id - id / 1000000 * 1000000) where
   hundreds : decimal (id / 10000) ≡ decimal (id / 1000000) ++ pair (tail / 10000)

@@ -1,11 +1,11 @@
--- `codec::decimal::few_digits` meets its contract: a number of at most ten digits lies between the powers of ten that it was compared with. Assumes nothing.
+-- `codec::width::few_digits` meets its contract: a number of at most ten digits lies between the powers of ten that it was compared with. Assumes nothing.
 use Rattle.codec.proofs.Laws.Decimal.{tenfold, decimal-digit}
 use Rattle.codec.proofs.Laws.Width.{decimal-width}
 use native.Mathlib.Omega.{arith}
 use mathlib.Core.Path.{sym, ap}
 use lib.ListN.{length}
-use Rattle.codec.proofs.decimal.few_digits.Statement.{statement}
-use Rattle.codec.proofs.decimal.few_digits.Tie as tie
+use Rattle.codec.proofs.width.few_digits.Statement.{statement}
+use Rattle.codec.proofs.width.few_digits.Tie as tie
 
 returns : tie.Need-returns
 returns c = sym (ap length (decimal-digit _ (omega arith)))

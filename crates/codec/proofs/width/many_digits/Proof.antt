@@ -1,9 +1,9 @@
--- `codec::decimal::many_digits` meets its contract: a number of more than ten digits lies between the powers of ten that it was compared with. Assumes nothing.
+-- `codec::width::many_digits` meets its contract: a number of more than ten digits lies between the powers of ten that it was compared with. Assumes nothing.
 use Rattle.codec.proofs.Laws.Decimal.{tenfold}
 use Rattle.codec.proofs.Laws.Width.{decimal-width}
 use native.Mathlib.Omega.{arith}
-use Rattle.codec.proofs.decimal.many_digits.Statement.{statement}
-use Rattle.codec.proofs.decimal.many_digits.Tie as tie
+use Rattle.codec.proofs.width.many_digits.Statement.{statement}
+use Rattle.codec.proofs.width.many_digits.Tie as tie
 
 returns : tie.Need-returns
 unfolding tenfold

@@ -1,9 +1,9 @@
--- `codec::decimal::digits` meets its contract. Assumes nothing.
+-- `codec::width::digits` meets its contract. Assumes nothing.
 use Rattle.codec.proofs.Laws.Decimal.{decimal-length}
 use native.Mathlib.Omega.{arith}
 use borrow.Author.Needs.{needs}
-use Rattle.codec.proofs.decimal.digits.Statement.{statement}
-use Rattle.codec.proofs.decimal.digits.Tie as tie
+use Rattle.codec.proofs.width.digits.Statement.{statement}
+use Rattle.codec.proofs.width.digits.Tie as tie
 
 few-digits-requires : tie.Need-few-digits-requires
 few-digits-requires c κs = search needs
