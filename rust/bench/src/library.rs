@@ -10,22 +10,36 @@ use crate::yard::seek::Found;
 type Out = *mut u8;
 type In = *const u8;
 
-/// Its calls that resolve a list and write records. Plans are those of the present archive alone:
-/// one that was built before may write other pieces.
+/// Its calls that resolve a list and write records, and those that write names and keys of digits.
+/// Plans are those of the present archive alone: one that was built before may write other pieces.
 #[derive(Clone, Copy)]
 pub struct Library {
     view: unsafe extern "C" fn(In, usize, u64, Out, usize) -> ezk_answer,
     tidy: unsafe extern "C" fn(In, usize, Out, usize) -> ezk_answer,
+    redis: unsafe extern "C" fn(u64, u64, Out, usize) -> ezk_answer,
+    short: unsafe extern "C" fn(u64, u64, u64, Out, usize) -> ezk_answer,
+    full: unsafe extern "C" fn(In, usize, u64, u64, u64, Out, usize) -> ezk_answer,
 }
 
-pub const NOW: Library = Library { view: sys::ezk_view, tidy: sys::ezk_tidy };
+pub const NOW: Library = Library {
+    view: sys::ezk_view,
+    tidy: sys::ezk_tidy,
+    redis: sys::ezk_write_redis_key,
+    short: sys::ezk_write_object_name,
+    full: sys::ezk_write_full_name,
+};
 
 #[cfg(not(before))]
 pub const BEFORE: Option<Library> = None;
 
 #[cfg(before)]
-pub const BEFORE: Option<Library> =
-    Some(Library { view: before::before_ezk_view, tidy: before::before_ezk_tidy });
+pub const BEFORE: Option<Library> = Some(Library {
+    view: before::before_ezk_view,
+    tidy: before::before_ezk_tidy,
+    redis: before::before_ezk_write_redis_key,
+    short: before::before_ezk_write_object_name,
+    full: before::before_ezk_write_full_name,
+});
 
 #[cfg(before)]
 mod before {
@@ -34,6 +48,18 @@ mod before {
     extern "C" {
         pub fn before_ezk_view(l: In, n: usize, c: u64, o: Out, m: usize) -> ezk_answer;
         pub fn before_ezk_tidy(l: In, n: usize, o: Out, m: usize) -> ezk_answer;
+        pub fn before_ezk_write_redis_key(i: u64, x: u64, o: Out, m: usize) -> ezk_answer;
+        pub fn before_ezk_write_object_name(i: u64, b: u64, l: u64, o: Out, m: usize)
+            -> ezk_answer;
+        pub fn before_ezk_write_full_name(
+            v: In,
+            n: usize,
+            i: u64,
+            b: u64,
+            l: u64,
+            o: Out,
+            m: usize,
+        ) -> ezk_answer;
     }
 }
 
@@ -50,6 +76,29 @@ impl Library {
     pub fn tidy(&self, list: &[u8], out: &mut [u8]) -> Option<usize> {
         let (o, m) = (out.as_mut_ptr(), out.len());
         counted(unsafe { (self.tidy)(list.as_ptr(), list.len(), o, m) })
+    }
+
+    #[inline]
+    pub fn write_redis(&self, inode: u64, index: u64, out: &mut [u8]) -> Option<usize> {
+        counted(unsafe { (self.redis)(inode, index, out.as_mut_ptr(), out.len()) })
+    }
+
+    #[inline]
+    pub fn write_short(&self, id: u64, block: u64, length: u64, out: &mut [u8]) -> Option<usize> {
+        counted(unsafe { (self.short)(id, block, length, out.as_mut_ptr(), out.len()) })
+    }
+
+    #[inline]
+    pub fn write_name(
+        &self,
+        volume: &[u8],
+        id: u64,
+        block: u64,
+        length: u64,
+        out: &mut [u8],
+    ) -> Option<usize> {
+        let (v, n, o, m) = (volume.as_ptr(), volume.len(), out.as_mut_ptr(), out.len());
+        counted(unsafe { (self.full)(v, n, id, block, length, o, m) })
     }
 }
 

@@ -4,6 +4,7 @@ mod files;
 mod judged;
 mod next;
 mod pairs;
+mod texts;
 
 use rng::Rng;
 
@@ -14,7 +15,7 @@ use crate::yard::check::{checked, passed};
 use crate::yard::compact::{compact, Order};
 use crate::yard::plan::read_plan;
 use crate::yard::view::{tidy, view};
-use crate::yard::{most_pieces, plain, seek, texts, tree, walk, Room};
+use crate::yard::{most_pieces, plain, seek, tree, walk, Room};
 
 const BLOCKS: [u32; 2] = [65_536, 4_194_304];
 const INDEX: u32 = 4_294_967_295;
@@ -215,30 +216,5 @@ fn seeking_finds_what_holds_the_position() {
             assert_eq!(seek::halve(&row, position), found);
             assert_eq!(find(&view, position), found);
         }
-    }
-}
-
-fn text(write: &dyn Fn(&mut [u8]) -> Option<usize>) -> Vec<u8> {
-    let mut out = vec![0; 128];
-    let count = write(&mut out).expect("a text");
-    out.truncate(count);
-    out
-}
-
-#[test]
-fn names_and_keys_are_those_of_the_second_program() {
-    let mut rng = Rng::new(3);
-    for _ in 0..1_000 {
-        let (id, block) = (1 + (rng.u64() >> 1 >> rng.below(63)), rng.below(1_024));
-        let (length, index) = (1 + rng.below(16_777_216), rng.below(1 << 32));
-        let name = second::full_name(b"v", id, block, length).expect("a name");
-        assert_eq!(text(&|out| texts::write_name(b"v", id, block, length, out)), name);
-        assert_eq!(texts::read_name(&name), Some((1, id, block, length)));
-        let redis = second::redis_key(id, index).expect("a key");
-        assert_eq!(text(&|out| texts::write_redis(id, index, out)), redis);
-        assert_eq!(texts::read_redis(&redis), Some((id, index)));
-        let tkv = second::tkv_key(id, index).expect("a key");
-        assert_eq!(text(&|out| texts::write_tkv(id, index, out)), tkv);
-        assert_eq!(texts::read_tkv(&tkv), Some((id, index)));
     }
 }

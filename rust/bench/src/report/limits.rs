@@ -3,8 +3,8 @@
 use crate::report::spread::{select, Spread};
 use crate::report::{number, table as table_of, thousands};
 use crate::timed::{
-    added, comparison, files, judged, Row, Who, ADDED, BEGINS, COMPACT, FILES, JOINED, JUDGED,
-    NEXT, PLAN, SIZES, SMALL_PLAN, TIDY, VIEW,
+    added, comparison, files, judged, written, Row, Who, ADDED, BEGINS, COMPACT, FILES, JOINED,
+    JUDGED, NEXT, PLAN, SIZES, SMALL_PLAN, TIDY, VIEW, WRITTEN,
 };
 
 struct Limit {
@@ -64,6 +64,7 @@ fn limits(rows: &[Row]) -> Vec<Limit> {
     let checks = (Who::Checks, "two checks");
     limits.extend(ADDED.map(|call| over(rows, call, &added::LENGTHS, checks, 1.2)));
     limits.push(over(rows, BEGINS, &comparison::LENGTHS, (Who::Best, "`starts_with`"), 4.0));
+    limits.extend(WRITTEN.into_iter().flat_map(|call| texts(rows, call)));
     limits
 }
 
@@ -72,6 +73,20 @@ fn over(rows: &[Row], call: &str, sizes: &[usize], other: (Who, &str), most: f64
     let noise = if most > 1.0 { 1.1 } else { 1.05 };
     let worst = worst(rows, call, sizes, |row| row.ratio(Who::Now, other.0));
     Limit { what: format!("{call} / {}, at {}", other.1, list(sizes)), most, noise, worst }
+}
+
+/// Texts with ids of so many digits.
+fn texts(rows: &[Row], call: &str) -> [Limit; 3] {
+    let at = |digits, other, most| {
+        let limit = over(rows, call, digits, other, most);
+        Limit { what: limit.what + " digits", ..limit }
+    };
+    let before = (Who::Before, "before");
+    [
+        at(&written::DIGITS, (Who::Best, "pair table in Rust"), 1.1),
+        at(&[12, 20], before, 0.5),
+        at(&[1, 6], before, 1.0),
+    ]
 }
 
 /// A buffer that just fits over one with room to spare.

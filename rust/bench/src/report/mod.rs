@@ -9,6 +9,7 @@ mod others;
 mod picture;
 mod pieces;
 mod spread;
+mod texts;
 
 use crate::timed::Row;
 
@@ -31,7 +32,8 @@ pub fn files(rows: &[Row]) -> Vec<(&'static str, String)> {
         ("check.md", others::check(rows)),
         ("added.md", history::added(rows)),
         ("comparison.md", history::comparison(rows)),
-        ("texts.md", others::texts(rows)),
+        ("written.md", texts::written(rows)),
+        ("texts.md", texts::read_back(rows)),
         ("performance.svg", picture::svg(rows)),
     ]
 }

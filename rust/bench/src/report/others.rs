@@ -1,8 +1,8 @@
-//! Tables of seeking, of the check, and of names and keys.
+//! Tables of seeking and of the check.
 
 use crate::report::spread::{ratios, times, Spread};
 use crate::report::{number, table, thousands};
-use crate::timed::{Row, Who, CHECK, FIND, KEYS, NAMES, SIZES};
+use crate::timed::{Row, Who, CHECK, FIND, SIZES};
 
 /// Seeking, in nanoseconds.
 pub fn find(rows: &[Row]) -> String {
@@ -47,18 +47,4 @@ pub fn check(rows: &[Row]) -> String {
         ]
     };
     table(&head, "wnnnn", rows.iter().filter(|row| row.call == CHECK).map(line).collect())
-}
-
-pub fn texts(rows: &[Row]) -> String {
-    let head = ["written and read back", "us", "plain Rust, us", "archive / Rust"];
-    let line = |row: &Row| {
-        vec![
-            row.call.into(),
-            number(row.time(Who::Now)),
-            number(row.time(Who::Best)),
-            number(row.ratio(Who::Now, Who::Best)),
-        ]
-    };
-    let lines = rows.iter().filter(|row| [NAMES, KEYS].contains(&row.call)).map(line);
-    table(&head, "wnnn", lines.collect())
 }

@@ -15,6 +15,7 @@ mod row;
 mod same;
 mod seek;
 mod texts;
+pub mod written;
 
 pub use row::{Row, Who};
 
@@ -66,6 +67,8 @@ pub const ADDED: [&str; 4] = [
 pub const BEGINS: &str = "comparison";
 pub const NAMES: &str = "full name";
 pub const KEYS: &str = "chunk keys";
+/// Written alone. The rows' numbers of records are those of an id's digits.
+pub const WRITTEN: [&str; 3] = ["Redis key, written", "short name, written", "full name, written"];
 
 /// All rows, or what two programs differ in.
 pub fn all() -> Result<Vec<Row>, String> {
@@ -81,6 +84,7 @@ pub fn all() -> Result<Vec<Row>, String> {
     rows.extend(check::rows()?);
     rows.extend(added::rows()?);
     rows.extend(comparison::rows()?);
+    rows.extend(written::rows()?);
     rows.extend(texts::rows()?);
     Ok(rows)
 }

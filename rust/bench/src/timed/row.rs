@@ -29,6 +29,8 @@ pub enum Who {
     InOrder,
     /// Calls on single chunks, one after the other, in the stead of one on a file.
     Singles,
+    /// Rust's own formatting.
+    Write,
 }
 
 pub struct Row {

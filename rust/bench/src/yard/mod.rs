@@ -5,10 +5,12 @@
 //! in a set of bits (`open`, `sweep`), and views, plans and compaction are written on the way.
 //! `plain` is that sweep without its last refinements. The next piece of a read is found by a scan
 //! (`scan`, `next`). A plan made elsewhere is set beside our own, in order of place (`judge`, `pass`,
-//! `sites`).
+//! `sites`). Names and keys (`texts`) have their digits from a table of pairs (`digits`), and
+//! `written` writes them by Rust's own formatting.
 
 pub mod check;
 pub mod compact;
+mod digits;
 pub mod judge;
 pub mod next;
 mod open;
@@ -28,5 +30,6 @@ pub mod texts;
 pub mod tree;
 pub mod view;
 pub mod walk;
+pub mod written;
 
 pub use room::{most_pieces, Room};

@@ -1,31 +1,24 @@
 //! Names and keys in plain Rust, without memory of their own.
 
-/// Writes into a buffer and remembers how far.
-struct Pen<'a> {
-    out: &'a mut [u8],
-    at: usize,
+use crate::yard::digits::Pen;
+
+/// Whether the numbers may stand in a name.
+pub fn sound(id: u64, block: u64, length: u64) -> bool {
+    id > 0 && block <= 1_023 && (1..=16_777_216).contains(&length)
 }
 
-impl Pen<'_> {
-    fn text(&mut self, text: &[u8]) -> Option<()> {
-        let end = self.at + text.len();
-        self.out.get_mut(self.at..end)?.copy_from_slice(text);
-        self.at = end;
-        Some(())
-    }
+pub fn is_volume(name: &[u8]) -> bool {
+    let allowed = |b: &u8| matches!(b, b'a'..=b'z' | b'0'..=b'9' | b'-');
+    (1..=63).contains(&name.len()) && name.iter().all(allowed)
+}
 
-    fn digits(&mut self, mut number: u64) -> Option<()> {
-        let mut digits = [0; 20];
-        let mut first = digits.len();
-        loop {
-            first -= 1;
-            digits[first] = b'0' + (number % 10) as u8;
-            number /= 10;
-            if number == 0 {
-                return self.text(&digits[first..]);
-            }
-        }
+pub fn write_short(id: u64, block: u64, length: u64, out: &mut [u8]) -> Option<usize> {
+    if !sound(id, block, length) {
+        return None;
     }
+    let mut pen = Pen::new(out);
+    object(&mut pen, id, block, length)?;
+    Some(pen.at)
 }
 
 pub fn write_name(
@@ -35,16 +28,19 @@ pub fn write_name(
     length: u64,
     out: &mut [u8],
 ) -> Option<usize> {
-    let allowed = |b: &u8| matches!(b, b'a'..=b'z' | b'0'..=b'9' | b'-');
-    if id == 0 || block > 1_023 || length == 0 || length > 16_777_216 {
+    if !sound(id, block, length) || !is_volume(volume) {
         return None;
     }
-    if volume.is_empty() || volume.len() > 63 || !volume.iter().all(allowed) {
-        return None;
-    }
-    let mut pen = Pen { out, at: 0 };
+    let mut pen = Pen::new(out);
     pen.text(volume)?;
-    pen.text(b"/chunks/")?;
+    pen.text(b"/")?;
+    object(&mut pen, id, block, length)?;
+    Some(pen.at)
+}
+
+/// The short name, which is a full name's end.
+fn object(pen: &mut Pen, id: u64, block: u64, length: u64) -> Option<()> {
+    pen.text(b"chunks/")?;
     pen.digits(id / 1_000_000)?;
     pen.text(b"/")?;
     pen.digits(id / 1_000)?;
@@ -53,13 +49,12 @@ pub fn write_name(
     pen.text(b"_")?;
     pen.digits(block)?;
     pen.text(b"_")?;
-    pen.digits(length)?;
-    Some(pen.at)
+    pen.digits(length)
 }
 
 pub fn write_redis(inode: u64, index: u64, out: &mut [u8]) -> Option<usize> {
     u32::try_from(index).ok()?;
-    let mut pen = Pen { out, at: 0 };
+    let mut pen = Pen::new(out);
     pen.text(b"c")?;
     pen.digits(inode)?;
     pen.text(b"_")?;
@@ -70,8 +65,7 @@ pub fn write_redis(inode: u64, index: u64, out: &mut [u8]) -> Option<usize> {
 /// Reads a full name: length of the volume name, id, block, block length.
 pub fn read_name(name: &[u8]) -> Option<(usize, u64, u64, u64)> {
     let slash = name.iter().position(|byte| *byte == b'/')?;
-    let allowed = |b: &u8| matches!(b, b'a'..=b'z' | b'0'..=b'9' | b'-');
-    if slash == 0 || slash > 63 || !name[..slash].iter().all(allowed) {
+    if !is_volume(&name[..slash]) {
         return None;
     }
     let (millions, rest) = digits(name[slash..].strip_prefix(b"/chunks/")?)?;
@@ -80,8 +74,7 @@ pub fn read_name(name: &[u8]) -> Option<(usize, u64, u64, u64)> {
     let (block, rest) = digits(rest.strip_prefix(b"_")?)?;
     let (length, rest) = digits(rest.strip_prefix(b"_")?)?;
     let agree = millions == id / 1_000_000 && thousands == id / 1_000;
-    let sound = id > 0 && block <= 1_023 && (1..=16_777_216).contains(&length);
-    (agree && sound && rest.is_empty()).then_some((slash, id, block, length))
+    (agree && sound(id, block, length) && rest.is_empty()).then_some((slash, id, block, length))
 }
 
 pub fn read_redis(key: &[u8]) -> Option<(u64, u64)> {
