@@ -1,6 +1,7 @@
 //! The calls that the papers speak of, and limits from both sides. Their values are tested
 //! in the second program.
 
+mod digits;
 mod files;
 mod history;
 mod judge;
@@ -31,6 +32,7 @@ pub fn all() -> Vec<Call> {
         files::all(),
         names(),
         keys(),
+        digits::all(),
     ]
     .concat();
     let pieces = next::of(&calls);
