@@ -102,62 +102,62 @@ pub(crate) fn length(i: usize, b: usize, s: usize) -> usize
 }
 
 // Puts a slice of at most six digits, whose millions are 0, one number after the other.
-fn put_short(line: &mut [u8], at: usize, id: u64, width: usize, table: &[u8]) -> usize
-    requires { ⌜ (width ≤ 6) × (width ≡ length (decimal id)) × (at + length (slicePath id) ≤ length (now line)) × PairTable (now table) ⌝ }
-    ensures { λ r. ⌜ Puts (now (line .entry)) at (slicePath id) (length (slicePath id)) r (now (line .exit)) ⌝ }
+fn put_short(out: &mut [u8], at: usize, id: u64, width: usize, table: &[u8]) -> usize
+    requires { ⌜ (width ≤ 6) × (width ≡ length (decimal id)) × (at + length (slicePath id) ≤ length (now out)) × PairTable (now table) ⌝ }
+    ensures { λ r. ⌜ Puts (now (out .entry)) at (slicePath id) (length (slicePath id)) r (now (out .exit)) ⌝ }
 {
     let thousands = thousandth(width);
-    let a = text::put_word(line, at, b"0/");
-    let b = text::put_number_word(line, a, id / 1000, thousands, table, b"/");
-    decimal::put_digits(line, b, id, width, table)
+    let a = text::put_word(out, at, b"0/");
+    let b = text::put_number_word(out, a, id / 1000, thousands, table, b"/");
+    decimal::put_digits(out, b, id, width, table)
 }
 
 // Puts the six digits that follow a slice's millions: all at `id`, and the first four at `thousands`. The fourth is one too many there, for two
 // digits are moved at a time; the slash is stored in its place.
-fn put_tails(line: &mut [u8], thousands: usize, id: usize, tail: u64, table: &[u8])
-    requires { ⌜ (tail < 1000000) × (thousands + 4 ≤ id) × (id + 6 ≤ length (now line)) × PairTable (now table) ⌝ }
-    ensures { λ _. ⌜ now (line .exit) ≡ splice (splice (now (line .entry)) id (pair (tail / 10000) ++ four (tail % 10000))) thousands (four (tail / 100)) ⌝ }
+fn put_tails(out: &mut [u8], thousands: usize, id: usize, tail: u64, table: &[u8])
+    requires { ⌜ (tail < 1000000) × (thousands + 4 ≤ id) × (id + 6 ≤ length (now out)) × PairTable (now table) ⌝ }
+    ensures { λ _. ⌜ now (out .exit) ≡ splice (splice (now (out .entry)) id (pair (tail / 10000) ++ four (tail % 10000))) thousands (four (tail / 100)) ⌝ }
 {
     let high = tail / 10000;
     let four = tail - high * 10000;
     let middle = four / 100;
     let low = four - middle * 100;
-    pairs::put_pair(line, id, high, table);
-    pairs::put_pair(line, id + 2, middle, table);
-    pairs::put_pair(line, id + 4, low, table);
-    pairs::put_pair(line, thousands, high, table);
-    pairs::put_pair(line, thousands + 2, middle, table);
+    pairs::put_pair(out, id, high, table);
+    pairs::put_pair(out, id + 2, middle, table);
+    pairs::put_pair(out, id + 4, low, table);
+    pairs::put_pair(out, thousands, high, table);
+    pairs::put_pair(out, thousands + 2, middle, table);
 }
 
 // Puts a slice of more than six digits: its millions are the first digits of all three numbers, and go to all three places at once.
-fn put_long(line: &mut [u8], at: usize, id: u64, width: usize, table: &[u8]) -> usize
-    requires { ⌜ (6 < width) × (width ≡ length (decimal id)) × (at + length (slicePath id) ≤ length (now line)) × PairTable (now table) ⌝ }
-    ensures { λ r. ⌜ Puts (now (line .entry)) at (slicePath id) (length (slicePath id)) r (now (line .exit)) ⌝ }
+fn put_long(out: &mut [u8], at: usize, id: u64, width: usize, table: &[u8]) -> usize
+    requires { ⌜ (6 < width) × (width ≡ length (decimal id)) × (at + length (slicePath id) ≤ length (now out)) × PairTable (now table) ⌝ }
+    ensures { λ r. ⌜ Puts (now (out .entry)) at (slicePath id) (length (slicePath id)) r (now (out .exit)) ⌝ }
 {
     let top = id / 1000000;
     let x = at + (width - 6);
     let y = x + 1 + (width - 3);
-    decimal::put_thrice(line, at, x + 1, y + 1, top, width - 6, table);
-    put_tails(line, y - 3, y + width - 5, id - top * 1000000, table);
-    line[x] = b'/';
-    line[y] = b'/';
+    decimal::put_thrice(out, at, x + 1, y + 1, top, width - 6, table);
+    put_tails(out, y - 3, y + width - 5, id - top * 1000000, table);
+    out[x] = b'/';
+    out[y] = b'/';
     y + 1 + width
 }
 
 // Puts a slice into a buffer as it stands in names: its millions, its thousands and its id.
-fn put_slice(line: &mut [u8], at: usize, id: u64, width: usize, table: &[u8]) -> usize
-    requires { ⌜ (width ≡ length (decimal id)) × (at + length (slicePath id) ≤ length (now line)) × PairTable (now table) ⌝ }
-    ensures { λ r. ⌜ Puts (now (line .entry)) at (slicePath id) (length (slicePath id)) r (now (line .exit)) ⌝ }
+fn put_slice(out: &mut [u8], at: usize, id: u64, width: usize, table: &[u8]) -> usize
+    requires { ⌜ (width ≡ length (decimal id)) × (at + length (slicePath id) ≤ length (now out)) × PairTable (now table) ⌝ }
+    ensures { λ r. ⌜ Puts (now (out .entry)) at (slicePath id) (length (slicePath id)) r (now (out .exit)) ⌝ }
 {
     if 6 < width {
-        return put_long(line, at, id, width, table);
+        return put_long(out, at, id, width, table);
     }
-    put_short(line, at, id, width, table)
+    put_short(out, at, id, width, table)
 }
 
 // Puts the name of an object into a buffer. Its id, block and size have i, b and s digits.
 pub(crate) fn put(
-    line: &mut [u8],
+    out: &mut [u8],
     at: usize,
     id: u64,
     block: u64,
@@ -167,12 +167,12 @@ pub(crate) fn put(
     s: usize,
     table: &[u8],
 ) -> usize
-    requires { ⌜ Widths id block size i b s × (at + length (objectName id block size) ≤ length (now line)) × PairTable (now table) ⌝ }
-    ensures { λ r. ⌜ Puts (now (line .entry)) at (objectName id block size) (length (objectName id block size)) r (now (line .exit)) ⌝ }
+    requires { ⌜ Widths id block size i b s × (at + length (objectName id block size) ≤ length (now out)) × PairTable (now table) ⌝ }
+    ensures { λ r. ⌜ Puts (now (out .entry)) at (objectName id block size) (length (objectName id block size)) r (now (out .exit)) ⌝ }
 {
-    let slice = text::put_word(line, at, b"chunks/");
-    let bar = put_slice(line, slice, id, i, table);
-    let second = text::put_word(line, bar, b"_");
-    let third = text::put_number_word(line, second, block, b, table, b"_");
-    decimal::put_digits(line, third, size, s, table)
+    let slice = text::put_word(out, at, b"chunks/");
+    let bar = put_slice(out, slice, id, i, table);
+    let second = text::put_word(out, bar, b"_");
+    let third = text::put_number_word(out, second, block, b, table, b"_");
+    decimal::put_digits(out, third, size, s, table)
 }

@@ -1,4 +1,4 @@
-// Texts of a fixed form: made in a line, and read part by part.
+// Texts of a fixed form: made in a buffer, and read part by part.
 pub mod scan;
 pub mod text;
 

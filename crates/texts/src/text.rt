@@ -10,25 +10,25 @@ ghost use Rattle.codec.specs.Inner.{Puts};
 ghost use Rattle.codec.specs.Pairs.{PairTable};
 
 // Puts a word into a buffer.
-pub fn put_word(line: &mut [u8], at: usize, word: &[u8]) -> usize
-    requires { ⌜ at + length (now word) ≤ length (now line) ⌝ }
-    ensures { λ r. ⌜ Puts (now (line .entry)) at (now (word .entry)) (length (now (word .entry))) r (now (line .exit)) ⌝ }
+pub fn put_word(out: &mut [u8], at: usize, word: &[u8]) -> usize
+    requires { ⌜ at + length (now word) ≤ length (now out) ⌝ }
+    ensures { λ r. ⌜ Puts (now (out .entry)) at (now (word .entry)) (length (now (word .entry))) r (now (out .exit)) ⌝ }
 {
-    put::put(line, at, word)
+    put::put(out, at, word)
 }
 
 // Puts n, which has so many digits, and the word after it, into a buffer.
 pub fn put_number_word(
-    line: &mut [u8],
+    out: &mut [u8],
     at: usize,
     n: u64,
     width: usize,
     table: &[u8],
     word: &[u8],
 ) -> usize
-    requires { ⌜ (width ≡ length (decimal n)) × (at + (width + length (now word)) ≤ length (now line)) × PairTable (now table) ⌝ }
-    ensures { λ r. ⌜ Puts (now (line .entry)) at (decimal n ++ now (word .entry)) (width + length (now (word .entry))) r (now (line .exit)) ⌝ }
+    requires { ⌜ (width ≡ length (decimal n)) × (at + (width + length (now word)) ≤ length (now out)) × PairTable (now table) ⌝ }
+    ensures { λ r. ⌜ Puts (now (out .entry)) at (decimal n ++ now (word .entry)) (width + length (now (word .entry))) r (now (out .exit)) ⌝ }
 {
-    let end = decimal::put_digits(line, at, n, width, table);
-    put_word(line, end, word)
+    let end = decimal::put_digits(out, at, n, width, table);
+    put_word(out, end, word)
 }

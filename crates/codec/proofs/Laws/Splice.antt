@@ -38,9 +38,6 @@ pub splice-then : (out : List ℕ) (at : ℕ) (bs : List ℕ) (n : ℕ) (cs : Li
     → splice (splice out at bs) (at + n) cs ≡ splice out at (bs ++ cs)
 splice-then out at bs n cs e h = rw (← e) (splice-append out at bs (rw e h) cs)
 
-pub drop-set-here : (l : List ℕ) (i a : ℕ) → i < length l → drop i (set l i a) ≡ a ∷ drop (suc i) l
-drop-set-here l i a h = rw (set-split l i a h) (drop-at (take i l) (a ∷ drop (suc i) l) i (length-take-le i l (omega arith)))
-
 -- one byte that is stored
 pub splice-one : (out : List ℕ) (at v : ℕ) → at < length out → set out at v ≡ splice out at (v ∷ [])
 unfolding splice
@@ -109,10 +106,6 @@ puts-then {out} {middle} {last} {a} {b} {at} {room} {more} {mid} {end} p q h =
 -- the same bytes in another grouping, and more room
 pub puts-as : {out last a : List ℕ} {at room more end : ℕ} (b : List ℕ) → Puts out at a room end last → a ≡ b → room ≤ more → Puts out at b more end last
 puts-as b p e h = rw (← e) (record { leaves = p .leaves; ends = p .ends; fits = omega (arith, p .fits) })
-
--- the front of the buffer is what was put there
-pub puts-front : {out last a : List ℕ} {room end : ℕ} → Puts out 0 a room end last → take end last ≡ a
-puts-front {out} {last} {a} {room} {end} p = ap (take end) (p .leaves) ∙ take-splice out a end (p .ends ∙ zero-add (length a))
 
 -- what was put behind, and then what stands before it
 pub splice-before : (out : List ℕ) (at : ℕ) (a b : List ℕ) (n : ℕ) → length a ≡ n → at + n + length b ≤ length out

@@ -10,7 +10,7 @@ use Rattle.names.proofs.block.put_long.Statement.{statement}
 use Rattle.names.proofs.block.put_long.Tie as tie
 
 -- where all ends
-room : (c : tie.After-shared-slice-known) → let s = c .before .before in let w = s .args .width in s .args .at + (w - 6 + 1 + (w - 3) + 1 + w) ≤ length (now (s .args .line))
+room : (c : tie.After-shared-slice-known) → let s = c .before .before in let w = s .args .width in s .args .at + (w - 6 + 1 + (w - 3) + 1 + w) ≤ length (now (s .args .out))
 room c = let s = c .before .before in omega (arith, s .pre .2, path-length (s .args .id) (s .args .width) (s .pre .0) (s .pre .1))
 
 sub-x : tie.Need-sub-x
@@ -66,14 +66,14 @@ put-tails-requires c κs =
     (omega arith, omega (arith, s .pre .0), omega (arith, s .pre .0, r, first .put-thrice .kept .0), s .pre .3)
 
 -- what the two calls leave is as long as before
-kept : (c : tie.After-slice-known3) → length (c .before .before .put-tails .last .0) ≡ length (now (c .before .before .before .before .before .before .before .before .before .before .args .line))
+kept : (c : tie.After-slice-known3) → length (c .before .before .put-tails .last .0) ≡ length (now (c .before .before .before .before .before .before .before .before .before .before .args .out))
 kept c = c .before .before .put-tails .kept .0 ∙ c .before .before .before .before .before .before .put-thrice .kept .0
 
-slice-write-line : tie.Need-slice-write-line
-slice-write-line c = omega (arith, kept c, room (c .before .before .before .before .before .before .before .before))
+slice-write-out : tie.Need-slice-write-out
+slice-write-out c = omega (arith, kept c, room (c .before .before .before .before .before .before .before .before))
 
-slice-write-line-2 : tie.Need-slice-write-line-2
-slice-write-line-2 c = simp length-set (omega (arith, kept c, room (c .before .before .before .before .before .before .before .before)))
+slice-write-out-2 : tie.Need-slice-write-out-2
+slice-write-out-2 c = simp length-set (omega (arith, kept c, room (c .before .before .before .before .before .before .before .before)))
 
 add-result : tie.Need-add-result
 add-result c = omega (arith, room (c .before .before .before .before .before .before .before .before))
@@ -90,7 +90,7 @@ returns c =
     let first = second .before .before .before .before in
     let s = first .before .before .before .before in
     let a = s .args in
-    puts-long (a .id) (a .width) (s .pre .0) (s .pre .1) (now (a .line)) (a .at) _ _ (a .id - a .id / 1000000 * 1000000) (s .pre .2) refl refl refl (first .put-thrice .ensures) (second .put-tails .ensures)
+    puts-long (a .id) (a .width) (s .pre .0) (s .pre .1) (now (a .out)) (a .at) _ _ (a .id - a .id / 1000000 * 1000000) (s .pre .2) refl refl refl (first .put-thrice .ensures) (second .put-tails .ensures)
 
 pub put-long-spec : {M : Type 1} → statement M
 put-long-spec =
@@ -111,8 +111,8 @@ put-long-spec =
     mul-put-tails
     sub-put-tails-3
     put-tails-requires
-    slice-write-line
-    slice-write-line-2
+    slice-write-out
+    slice-write-out-2
     add-result
     add-result-2
     same-length

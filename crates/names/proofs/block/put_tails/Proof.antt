@@ -53,7 +53,7 @@ returns c =
     let first = second .before .before .before .before in
     let s = first .before .before .before .before in
     let a = s .args in
-    tails-placed (now (a .line)) (a .thousands) (a .id) (a .tail) (s .pre .1) (s .pre .2) (first .put-pair .ensures) (second .put-pair2 .ensures) (third .put-pair3 .ensures) (fourth .put-pair4 .ensures) (fifth .put-pair5 .ensures)
+    tails-placed (now (a .out)) (a .thousands) (a .id) (a .tail) (s .pre .1) (s .pre .2) (first .put-pair .ensures) (second .put-pair2 .ensures) (third .put-pair3 .ensures) (fourth .put-pair4 .ensures) (fifth .put-pair5 .ensures)
 
 pub put-tails-spec : {M : Type 1} → statement M
 put-tails-spec =
