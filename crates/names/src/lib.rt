@@ -1,6 +1,7 @@
 // Object names: short ones, and full ones with a volume name in front.
 mod block;
 mod limits;
+mod slice;
 mod volume;
 
 use codec::pairs;

@@ -13,8 +13,8 @@ slice-aggregate-put-word c = search needs
 put-word-requires : tie.Need-put-word-requires
 put-word-requires c κs = let s = c .before .before .before .before in omega (arith, parts-length (s .args .id) (s .args .block) (s .args .size), s .pre .0 .of-block, s .pre .0 .of-size, s .pre .1)
 
-put-slice-requires : tie.Need-put-slice-requires
-put-slice-requires c κs = let s = c .before .before .before .before .before .before .before .before in (s .pre .0 .of-id, omega (arith, parts-length (s .args .id) (s .args .block) (s .args .size), s .pre .0 .of-block, s .pre .0 .of-size, s .pre .1), s .pre .2)
+put-requires : tie.Need-put-requires
+put-requires c κs = let s = c .before .before .before .before .before .before .before .before in (s .pre .0 .of-id, omega (arith, parts-length (s .args .id) (s .args .block) (s .args .size), s .pre .0 .of-block, s .pre .0 .of-size, s .pre .1), s .pre .2)
 
 slice-aggregate-put-word-2 : tie.Need-slice-aggregate-put-word-2
 slice-aggregate-put-word-2 c = search needs
@@ -40,7 +40,7 @@ returns c =
     let l = parts-length (s .args .id) (s .args .block) (s .args .size) in
     let b = s .pre .0 .of-block in
     let z = s .pre .0 .of-size in
-    let p2 = puts-then (c .before .before .before .before .before .before .before .before .before .before .before .before .before .before .before .before .before .before .before .before .put-word .ensures) (c .before .before .before .before .before .before .before .before .before .before .before .before .before .before .before .before .put-slice .ensures) (omega (arith, l, b, z, s .pre .1)) in
+    let p2 = puts-then (c .before .before .before .before .before .before .before .before .before .before .before .before .before .before .before .before .before .before .before .before .put-word .ensures) (c .before .before .before .before .before .before .before .before .before .before .before .before .before .before .before .before .put .ensures) (omega (arith, l, b, z, s .pre .1)) in
     let p3 = puts-then p2 (c .before .before .before .before .before .before .before .before .before .before .before .put-word2 .ensures) (omega (arith, l, b, z, s .pre .1)) in
     let p4 = puts-then p3 (c .before .before .before .before .before .before .put-number-word .ensures) (omega (arith, l, b, z, s .pre .1)) in
     let p5 = puts-then p4 (c .before .before .put-digits .ensures) (omega (arith, l, b, z, s .pre .1)) in
@@ -52,7 +52,7 @@ put-spec =
     (tie.spec
     slice-aggregate-put-word
     put-word-requires
-    put-slice-requires
+    put-requires
     slice-aggregate-put-word-2
     put-word-requires-2
     slice-aggregate-put-number-word

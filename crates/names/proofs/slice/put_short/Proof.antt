@@ -1,4 +1,4 @@
--- `names::block::put_short` meets its contract: a 0, the thousands and the id, one behind the other. Assumes nothing.
+-- `names::slice::put_short` meets its contract: a 0, the thousands and the id, one behind the other. Assumes nothing.
 use native.Mathlib.Omega.{arith}
 use mathlib.Core.Path.{_≡_, sym, ap, _∙_}
 use Prim.Native.Nat.{ℕ, _-_, _/_, max}
@@ -10,8 +10,8 @@ use Rattle.codec.proofs.Laws.Width.{thousandth-width}
 use Rattle.names.proofs.Laws.Length.{slice-length}
 use Rattle.names.proofs.Laws.Slice.{no-millions, short-parts}
 use borrow.Author.Needs.{needs}
-use Rattle.names.proofs.block.put_short.Statement.{statement}
-use Rattle.names.proofs.block.put_short.Tie as tie
+use Rattle.names.proofs.slice.put_short.Statement.{statement}
+use Rattle.names.proofs.slice.put_short.Tie as tie
 
 -- how many digits the thousands have
 thousands : (c : tie.After-thousandth) → c .thousandth .result ≡ length (decimal (c .before .before .before .args .id / 1000))

@@ -1,9 +1,9 @@
--- `names::block::put_tails` meets its contract: one pair after the other. Assumes nothing.
+-- `names::slice::put_tails` meets its contract: one pair after the other. Assumes nothing.
 use denote.Ref.{now}
 use Rattle.names.proofs.Laws.Slice.{tails-placed}
 use borrow.Author.Needs.{needs}
-use Rattle.names.proofs.block.put_tails.Statement.{statement}
-use Rattle.names.proofs.block.put_tails.Tie as tie
+use Rattle.names.proofs.slice.put_tails.Statement.{statement}
+use Rattle.names.proofs.slice.put_tails.Tie as tie
 
 mul-four : tie.Need-mul-four
 mul-four c = search needs

@@ -1,4 +1,4 @@
--- `names::block::put_long` meets its contract: the millions at three places, the other digits behind them, and the slashes between. Assumes nothing.
+-- `names::slice::put_long` meets its contract: the millions at three places, the other digits behind them, and the slashes between. Assumes nothing.
 use native.Mathlib.Omega.{arith}
 use Prim.Native.Nat.{_+_, _-_, _*_, _/_, _≤_}
 use mathlib.Core.Path.{_≡_, refl, _∙_}
@@ -6,8 +6,8 @@ use lib.ListN.{length, length-set}
 use denote.Ref.{now}
 use Rattle.names.proofs.Laws.Slice.{top-width, path-length, puts-long}
 use borrow.Author.Needs.{needs}
-use Rattle.names.proofs.block.put_long.Statement.{statement}
-use Rattle.names.proofs.block.put_long.Tie as tie
+use Rattle.names.proofs.slice.put_long.Statement.{statement}
+use Rattle.names.proofs.slice.put_long.Tie as tie
 
 -- where all ends
 room : (c : tie.After-shared-slice-known) → let s = c .before .before in let w = s .args .width in s .args .at + (w - 6 + 1 + (w - 3) + 1 + w) ≤ length (now (s .args .out))
