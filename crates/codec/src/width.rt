@@ -4,7 +4,7 @@ ghost use Prim.Native.Nat.{_≤_, _<_};
 ghost use lib.ListN.{length};
 ghost use Rattle.codec.specs.Decimal.{maxDigits, decimal};
 
-// How many digits a number of at most ten has.
+// How many digits n has, where these are at most ten.
 fn few_digits(n: u64) -> usize
     requires { ⌜ n < 10000000000 ⌝ }
     ensures { λ r. ⌜ r ≡ length (decimal n) ⌝ }
@@ -39,7 +39,7 @@ fn few_digits(n: u64) -> usize
     10
 }
 
-// How many digits a number of more than ten has.
+// How many digits n has, where these are more than ten.
 fn many_digits(n: u64) -> usize
     requires { ⌜ 10000000000 ≤ n ⌝ }
     ensures { λ r. ⌜ r ≡ length (decimal n) ⌝ }

@@ -20,7 +20,7 @@ pub fn rows() -> Result<Vec<Row>, String> {
     ])
 }
 
-/// Numbers of every length.
+/// Numbers of 1 to 19 digits.
 fn ids() -> Vec<u64> {
     let mut rng = Rng::new(1);
     (0..TEXTS).map(|i| 1 + (rng.u64() >> (1 + i % 63))).collect()

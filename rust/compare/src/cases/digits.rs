@@ -23,3 +23,14 @@ fn of(n: u64, out: Room) -> [Call; 3] {
         Call::WriteRedisKey { inode: n, index: n % (1 << 32), out },
     ]
 }
+
+#[cfg(test)]
+mod tests {
+    use super::numbers;
+
+    #[test]
+    fn numbers_of_every_length() {
+        let lengths: Vec<usize> = numbers().iter().map(|n| n.to_string().len()).collect();
+        assert!((1..=20).all(|length| lengths.contains(&length)));
+    }
+}
