@@ -1,4 +1,6 @@
 // The blocks of a slice.
+#![tactic(auto)]
+
 ghost use Rattle.std.specs.Prelude.{◌≡◌, true, ◌^◌, ◌<◌};
 ghost use Rattle.blocks.specs.Blocks.{block_allowed};
 

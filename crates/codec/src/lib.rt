@@ -1,4 +1,6 @@
 // Numbers and bytes: fixed widths, decimal text, and writing into a lent buffer.
+#![tactic(auto)]
+
 pub mod decimal;
 pub mod fixed;
 pub mod little;

@@ -4,7 +4,7 @@ ghost use Rattle.codec.specs.Scan.{digit_at, decimal_at};
 
 // What reading one part of a text finds: the place after it, with the number it holds (0 for a word), or
 // the place at which the reading gives up.
-#[derive(Drop)]
+#[derive(Clone, Copy)]
 pub enum Step {
     Next { at: usize, value: u64 },
     Stop(usize),

@@ -1,4 +1,6 @@
 // Compaction: the first records of a list give way to one record of a new slice.
+#![tactic(auto)]
+
 mod ends;
 mod ids;
 mod new_list;
@@ -22,7 +24,7 @@ use plans::rooms;
 use slices::{Checked, MAX_INDEX, RECORD, check};
 
 // What the call answers: the numbers of bytes of the plan and of the new list, or the refusal.
-#[derive(Drop)]
+#[derive(Clone, Copy)]
 pub enum Compacted {
     Wrote { plan: usize, list: usize },
     Refused(Refusal),

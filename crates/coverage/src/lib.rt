@@ -1,4 +1,6 @@
 // How often pieces in any order hold each place of a read.
+#![tactic(auto)]
+
 mod chain;
 mod keys;
 mod windows;

@@ -5,7 +5,7 @@ ghost use Rattle.coverage.specs.Inner.{above, one_if, Kept, Narrowed};
 use crate::keys::ABOVE;
 
 // A window goes up to `high`, and `count` pieces begin in it.
-#[derive(Drop)]
+#[derive(Clone, Copy)]
 pub(crate) struct Window {
     pub(crate) high: u32,
     pub(crate) count: usize,

@@ -1,5 +1,7 @@
 // The C interface: each call under a C name, with its answer as a struct of numbers. On success `refusal` is 0; a field without
 // meaning is 0.
+#![tactic(auto)]
+
 mod answers;
 mod changes;
 mod compacting;
@@ -13,7 +15,7 @@ mod steps;
 
 // What a call that counts or writes answers.
 #[repr(C)]
-#[derive(Drop)]
+#[derive(Clone, Copy)]
 pub struct Plain {
     pub refusal: u64,
     pub place: u64,
@@ -22,7 +24,7 @@ pub struct Plain {
 
 // What a plan across a file answers: `index` is the chunk index of the refused list.
 #[repr(C)]
-#[derive(Drop)]
+#[derive(Clone, Copy)]
 pub struct Filed {
     pub refusal: u64,
     pub place: u64,
@@ -33,7 +35,7 @@ pub struct Filed {
 // What is said of a plan: `verdict` is 1 where it is accepted, 2 where a piece is wrong in itself and 3 where a byte is missing or doubled; `at` is the
 // number of that piece, or the place of that byte, and `index` the chunk index of the refused list.
 #[repr(C)]
-#[derive(Drop)]
+#[derive(Clone, Copy)]
 pub struct Judged {
     pub refusal: u64,
     pub place: u64,
@@ -44,7 +46,7 @@ pub struct Judged {
 
 // What comes next in a read of one chunk: `finished` is 1 where nothing is left, and `next` is the next place; the others are the piece.
 #[repr(C)]
-#[derive(Drop)]
+#[derive(Clone, Copy)]
 pub struct Next {
     pub refusal: u64,
     pub place: u64,
@@ -62,7 +64,7 @@ pub struct Next {
 
 // The same for a read across a file: `list_index` is the chunk index of the refused list.
 #[repr(C)]
-#[derive(Drop)]
+#[derive(Clone, Copy)]
 pub struct FileNext {
     pub refusal: u64,
     pub place: u64,
@@ -81,7 +83,7 @@ pub struct FileNext {
 
 // What compaction answers: the counts of the plan's bytes and of the new list's.
 #[repr(C)]
-#[derive(Drop)]
+#[derive(Clone, Copy)]
 pub struct Compact {
     pub refusal: u64,
     pub place: u64,
@@ -91,7 +93,7 @@ pub struct Compact {
 
 // What an object name names; `volume` is the length of the volume name at its front, 0 for a short name.
 #[repr(C)]
-#[derive(Drop)]
+#[derive(Clone, Copy)]
 pub struct Object {
     pub refusal: u64,
     pub place: u64,
@@ -103,7 +105,7 @@ pub struct Object {
 
 // What a chunk key names.
 #[repr(C)]
-#[derive(Drop)]
+#[derive(Clone, Copy)]
 pub struct Chunk {
     pub refusal: u64,
     pub place: u64,
@@ -113,7 +115,7 @@ pub struct Chunk {
 
 // The segment of a view that holds a position: `found` is 1 where there is one, and then `segment` is its number in the view.
 #[repr(C)]
-#[derive(Drop)]
+#[derive(Clone, Copy)]
 pub struct Found {
     pub refusal: u64,
     pub place: u64,
@@ -128,7 +130,7 @@ pub struct Found {
 
 // What is new in a list: `rewritten` is 1 where it was rewritten; `offset` and `length` are the part of the newer list.
 #[repr(C)]
-#[derive(Drop)]
+#[derive(Clone, Copy)]
 pub struct Part {
     pub refusal: u64,
     pub place: u64,

@@ -1,4 +1,6 @@
 // Reads across the chunks of a file.
+#![tactic(auto)]
+
 pub mod parts;
 mod rooms;
 mod walk;
@@ -21,7 +23,7 @@ use slices::{CHUNK, MAX_INDEX};
 pub const LISTS: usize = 16;
 
 // What the call answers: the number of bytes that it wrote, or the refusal with the index of the list that it speaks of.
-#[derive(Drop)]
+#[derive(Clone, Copy)]
 pub enum FileAnswer {
     Wrote(usize),
     Refused(ListRefusal),

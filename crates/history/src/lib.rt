@@ -1,4 +1,6 @@
 // What is new since last time: of an older and a newer list, what was added, and whether the list was rewritten.
+#![tactic(auto)]
+
 mod beginning;
 
 ghost use Rattle.std.specs.Prelude.{◌≡◌};
@@ -8,7 +10,7 @@ use outcomes::Refusal;
 use slices::{Checked, check};
 
 // Whether the list was rewritten, or the refusal.
-#[derive(Drop)]
+#[derive(Clone, Copy)]
 pub enum WasRewritten {
     No,
     Yes,

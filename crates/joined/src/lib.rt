@@ -1,4 +1,6 @@
 // Joined lists: several lists, one after the other, and their lengths.
+#![tactic(auto)]
+
 ghost use Rattle.std.specs.Prelude.{◌≡◌, ◌+◌, ◌^◌, ◌<◌, eqb, length};
 ghost use Rattle.joined.specs.Lists.{total, parts};
 ghost use Rattle.joined.specs.Refusals.{lists_outcome, checked_lists};
@@ -6,7 +8,7 @@ ghost use Rattle.joined.specs.Refusals.{lists_outcome, checked_lists};
 use slices::{Checked, check};
 
 // A refusal, and the index of the list that it speaks of.
-#[derive(Drop)]
+#[derive(Clone, Copy)]
 pub struct ListRefusal {
     pub number: u8,
     pub place: usize,
@@ -14,7 +16,7 @@ pub struct ListRefusal {
 }
 
 // What is said of several lists: how many they are, or the refusal.
-#[derive(Drop)]
+#[derive(Clone, Copy)]
 pub enum CheckedLists {
     Accepted(usize),
     Refused(ListRefusal),

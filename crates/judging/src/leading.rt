@@ -17,7 +17,7 @@ use plans::{PIECE, Piece};
 use slices::CHUNK;
 
 // How many pieces they are, and the place behind the last of them.
-#[derive(Drop)]
+#[derive(Clone, Copy)]
 pub(crate) struct Lead {
     pub(crate) number: usize,
     pub(crate) place: u32,

@@ -1,4 +1,6 @@
 // Plans that were made elsewhere: whether they give each byte of a read once, and from where it lies.
+#![tactic(auto)]
+
 mod leading;
 mod pieces;
 mod places;
@@ -18,7 +20,7 @@ use outcomes::refusals;
 
 // What is said of a plan: it is accepted; a piece, by its number from 0, is wrong in itself; a byte, by its place in the read, is missing or doubled;
 // or the lists are refused.
-#[derive(Drop)]
+#[derive(Clone, Copy)]
 pub enum Judged {
     Accepted,
     WrongPiece(usize),

@@ -16,7 +16,7 @@ use plans::{Location, Piece, ZEROS, locations, reach};
 use resolve::{segments, tops};
 
 // Whether a piece's bytes lie where it says, and a segment from which to look for the next piece.
-#[derive(Drop)]
+#[derive(Clone, Copy)]
 pub(crate) struct Met {
     pub(crate) same: bool,
     pub(crate) segment: usize,

@@ -1,4 +1,6 @@
 // Chunk keys: those of Redis, which are text, and those of the TKV engines, which are 14 bytes.
+#![tactic(auto)]
+
 mod limits;
 
 ghost use Rattle.std.specs.Prelude.{◌≡◌, ◌≤◌, length};
@@ -17,7 +19,7 @@ use slices::MAX_INDEX;
 use texts::{MAX_NUMBER, scan, text};
 
 // What a chunk key names: a chunk of a file, or the refusal.
-#[derive(Drop)]
+#[derive(Clone, Copy)]
 pub enum ChunkKey {
     Key { inode: u64, index: u64 },
     Refused(Refusal),

@@ -1,4 +1,6 @@
 // What the program prints for a list: its view in decimal, or its refusal.
+#![tactic(auto)]
+
 mod lines;
 
 ghost use Rattle.std.specs.Prelude.{length, ◌≡◌};

@@ -1,4 +1,6 @@
 // Object names: short ones, and full ones with a volume name in front.
+#![tactic(auto)]
+
 mod block;
 mod limits;
 mod slice;
@@ -15,7 +17,7 @@ use outcomes::{Answer, Refusal, refusals};
 use texts::{scan, text};
 
 // What an object name names: a block of a slice, or the refusal.
-#[derive(Drop)]
+#[derive(Clone, Copy)]
 pub enum ObjectName {
     Block { id: u64, block: u64, length: u64 },
     Refused(Refusal),

@@ -1,4 +1,6 @@
 // What calls answer: refusals by their numbers, and bytes delivered into a lent buffer.
+#![tactic(auto)]
+
 pub mod refusals;
 
 ghost use Rattle.std.specs.Prelude.{length};
@@ -8,14 +10,14 @@ ghost use Rattle.outcomes.specs.Answers.{Answers};
 use codec::put;
 
 // A refusal's number, and the place of the record that it speaks of.
-#[derive(Drop)]
+#[derive(Clone, Copy)]
 pub struct Refusal {
     pub number: u8,
     pub place: usize,
 }
 
 // What a call that writes answers: the number of bytes that it wrote, or the refusal.
-#[derive(Drop)]
+#[derive(Clone, Copy)]
 pub enum Answer {
     Wrote(usize),
     Refused(Refusal),

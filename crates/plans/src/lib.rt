@@ -1,4 +1,6 @@
 // Where the bytes of a read lie, in maximal pieces.
+#![tactic(auto)]
+
 mod bytes;
 pub mod locations;
 mod objects;
@@ -26,7 +28,7 @@ pub const OBJECT: u16 = 0x5242;
 pub const ZEROS: u16 = 0x525a;
 
 // Where a byte lies in the store: nowhere, so that it reads as zero, or in an object at a place in its block.
-#[derive(Drop)]
+#[derive(Clone, Copy)]
 pub enum Location {
     Hole,
     In {
@@ -38,7 +40,7 @@ pub enum Location {
 }
 
 // A piece of a plan, as its 34 bytes say it.
-#[derive(Drop)]
+#[derive(Clone, Copy)]
 pub struct Piece {
     pub mark: u16,
     pub index: u32,
@@ -51,7 +53,7 @@ pub struct Piece {
 }
 
 // The positions from `from` up to, but without, `end`.
-#[derive(Drop)]
+#[derive(Clone, Copy)]
 pub struct Span {
     pub from: u32,
     pub end: u32,

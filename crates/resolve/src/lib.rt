@@ -1,4 +1,6 @@
 // A slice list resolved once into segments, each with the record that lies on top of it.
+#![tactic(auto)]
+
 mod order;
 pub mod segments;
 mod set;
@@ -16,7 +18,7 @@ ghost use Rattle.resolve.specs.Sweep.{Bounds};
 use slices::{RECORD, records};
 
 // Where a run ends, and the segment that holds that position.
-#[derive(Drop)]
+#[derive(Clone, Copy)]
 pub struct Reached {
     pub end: u32,
     pub segment: usize,

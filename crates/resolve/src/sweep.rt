@@ -9,7 +9,7 @@ use crate::{set, tops};
 use slices::CHUNK;
 
 // The set's word of sums, how many records have begun, and where the next begins.
-#[derive(Drop)]
+#[derive(Clone, Copy)]
 struct Started {
     sum: u64,
     begun: usize,
@@ -17,7 +17,7 @@ struct Started {
 }
 
 // The set's word of sums, the record on top, counted from 1, and where it ends.
-#[derive(Drop)]
+#[derive(Clone, Copy)]
 struct Highest {
     sum: u64,
     top: usize,
@@ -71,7 +71,7 @@ fn begin(
 }
 
 // What is left of a word of the set, the greatest number in it, and where that record ends.
-#[derive(Drop)]
+#[derive(Clone, Copy)]
 struct Left {
     rest: u64,
     last: usize,

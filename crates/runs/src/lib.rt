@@ -1,1 +1,3 @@
 // Maximal runs of anything on positions: definitions and laws alone.
+#![tactic(auto)]
+

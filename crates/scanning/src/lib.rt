@@ -1,4 +1,6 @@
 // What lies on top of one position, and how far, found by one scan from the last record down; what lies there, by a second one where it is asked for.
+#![tactic(auto)]
+
 ghost use Rattle.std.specs.Prelude.{◌≡◌, ◌+◌, ◌<◌, ◌≤◌, true, false, ◌==◌};
 ghost use Rattle.codec.specs.All.{All};
 ghost use Rattle.slices.specs.Cover.{covers};
@@ -15,7 +17,7 @@ const HALF: u32 = 0x80000000;
 
 // The record `top`, counted from 1, lies on top of a position, and of those behind it up to `end`; 0 says that there is none. On top of position
 // `end` lies one of the first `before` records, or none.
-#[derive(Drop)]
+#[derive(Clone, Copy)]
 pub struct Scanned {
     pub top: u16,
     pub end: u32,
@@ -23,7 +25,7 @@ pub struct Scanned {
 }
 
 // The nearest position behind another that a record covers, and the record, counted from 1.
-#[derive(Drop)]
+#[derive(Clone, Copy)]
 pub struct Near {
     pub at: u32,
     pub top: u16,

@@ -1,4 +1,6 @@
 // Which segment of a view holds a position, found by halving: in the view's bytes, or in a lent row that it was loaded into.
+#![tactic(auto)]
+
 mod bytes;
 mod half;
 mod lent;
@@ -12,21 +14,21 @@ use outcomes::{Refusal, refusals};
 use slices::{RECORD, Record};
 
 // The segment that holds a position, with its number in the row.
-#[derive(Drop)]
+#[derive(Clone, Copy)]
 pub enum Found {
     Nowhere,
     At { number: usize, segment: Record },
 }
 
 // What a search in bytes answers: what it found, or the refusal.
-#[derive(Drop)]
+#[derive(Clone, Copy)]
 pub enum Sought {
     Looked(Found),
     Refused(Refusal),
 }
 
 // What loading a view answers: how many segments it has, or the refusal.
-#[derive(Drop)]
+#[derive(Clone, Copy)]
 pub enum Loaded {
     Segments(usize),
     Refused(Refusal),

@@ -1,4 +1,6 @@
 // Prints the view of the slice list in the file list.bin, or why there is none.
+#![tactic(auto)]
+
 ghost use Rattle.std.specs.Prelude.{length, ◌≡◌};
 ghost use Rattle.listing.specs.Calls.{text_room};
 ghost use Rattle.show.specs.Inner.{Within};
@@ -7,7 +9,7 @@ use libc::{STDERR_FILENO, STDOUT_FILENO};
 use outcomes::Answer;
 
 // What reading a file gave: how many bytes it has, that it has more than the buffer holds, or that it could not be read.
-#[derive(Drop)]
+#[derive(Clone, Copy)]
 pub enum Input {
     Whole(usize),
     Longer,

@@ -1,4 +1,6 @@
 // Slice records of a chunk, which lists of them are refused, and where each byte of the chunk comes from.
+#![tactic(auto)]
+
 pub mod check;
 pub mod cover;
 pub mod ids;
@@ -21,7 +23,7 @@ pub const CHUNK: u32 = 67108864;
 pub const MAX_INDEX: u64 = 4294967295;
 
 // A slice record, as JuiceFS metadata v1 stores it.
-#[derive(Drop)]
+#[derive(Clone, Copy)]
 pub struct Record {
     pub pos: u32,
     pub id: u64,
@@ -31,7 +33,7 @@ pub struct Record {
 }
 
 // Where a byte of the chunk comes from.
-#[derive(Drop)]
+#[derive(Clone, Copy)]
 pub enum Source {
     Nothing,
     Zero,
@@ -39,7 +41,7 @@ pub enum Source {
 }
 
 // What is said of a list: its number of records, or the refusal.
-#[derive(Drop)]
+#[derive(Clone, Copy)]
 pub enum Checked {
     Accepted(usize),
     Refused(Refusal),

@@ -24,7 +24,7 @@ const MANY_ROOTS: u64 = 4096;
 const MANY_TABLE: usize = 20480;
 
 // Where a search ends: at the record with the id, or at an entry that is 0.
-#[derive(Drop)]
+#[derive(Clone, Copy)]
 pub enum Spot {
     Node(usize),
     Free(usize),

@@ -1,4 +1,6 @@
 // The pieces of a plan one at a time.
+#![tactic(auto)]
+
 mod chunks;
 mod ends;
 mod joins;
@@ -18,13 +20,13 @@ use plans::{Piece, Span};
 use slices::{CHUNK, Checked, MAX_INDEX, check};
 
 // A place in a read: how many of its bytes are already handed out.
-#[derive(Drop)]
+#[derive(Clone, Copy)]
 pub struct Place {
     pub at: u64,
 }
 
 // What comes next in a read of one chunk.
-#[derive(Drop)]
+#[derive(Clone, Copy)]
 pub enum Next {
     Given { piece: Piece, next: Place },
     Finished,
@@ -32,7 +34,7 @@ pub enum Next {
 }
 
 // What comes next in a read across the chunks of a file.
-#[derive(Drop)]
+#[derive(Clone, Copy)]
 pub enum FileNext {
     Given { piece: Piece, next: Place },
     Finished,

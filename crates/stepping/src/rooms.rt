@@ -12,7 +12,7 @@ use resolve::segments;
 use slices::RECORD;
 
 // Where a piece ends, and the record on top of its first position, counted from 1; 0 says that there is none.
-#[derive(Drop)]
+#[derive(Clone, Copy)]
 pub struct Ended {
     pub end: u32,
     pub top: u16,

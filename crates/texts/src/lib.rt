@@ -1,4 +1,6 @@
 // Texts of a fixed form: made in a buffer, and read part by part.
+#![tactic(auto)]
+
 pub mod scan;
 pub mod text;
 

@@ -1,4 +1,6 @@
 // The resolved view and the tidied list of a slice list.
+#![tactic(auto)]
+
 mod bytes;
 mod maximal;
 mod rooms;
