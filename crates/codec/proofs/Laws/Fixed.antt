@@ -83,7 +83,11 @@ number_back (suc k) x rest h =
     let b : x / 256 < 256 ^ k = omega (arith, rw pow-succ' at h) in
     let t = number_back k (x / 256) (x % 256 ∷ rest) b in
     let g = get_or_at (big_endian k (x / 256)) (x % 256) rest 0 k (length-big_endian k (x / 256)) in
-    ap (λ (l : List ℕ). number_at (l ++ rest) 0 (suc k)) (big_endian-last k x) ∙ rw (append_assoc, zero-add, t, g) (omega arith)
+    let whole : List ℕ = big_endian k (x / 256) ++ (x % 256 ∷ rest) in
+    let e : number_at whole 0 k * 256 + get_or whole (0 + k) 0 ≡ x = rw (zero-add, t, g) (omega arith) in
+    ap (λ (l : List ℕ). number_at (l ++ rest) 0 (suc k)) (big_endian-last k x)
+    ∙ ap (λ (l : List ℕ). number_at l 0 (suc k)) (append_assoc (big_endian k (x / 256)) (x % 256 ∷ []) rest)
+    ∙ e
 
 -- a field of k bytes behind `pre` is read back
 pub field_back : (pre : List ℕ) (at k x : ℕ) (rest : List ℕ) → length pre ≡ at → x < 256 ^ k → number_at (pre ++ (big_endian k x ++ rest)) at k ≡ x

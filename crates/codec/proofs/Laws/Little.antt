@@ -49,7 +49,9 @@ little_low pre x (suc k) rest =
     let b = x / 256 ^ k % 256 in
     let t = little_low pre x k (b ∷ rest) in
     let g : get_or (pre ++ (little_endian k x ++ (b ∷ rest))) (length pre + k) 0 ≡ b = rw get_or-append-add (get_or_at (little_endian k x) b rest 0 k (length-little_endian k x)) in
-    rw (append_assoc (little_endian k x) (b ∷ []) rest, t, g, pow-succ') (omega (arith, mod-mul x {m = 256} {c = 256 ^ k} (omega arith) (one-le-pow k 256 (omega arith))))
+    let whole : List ℕ = pre ++ (little_endian k x ++ (b ∷ rest)) in
+    let e : little_at whole (length pre) k + get_or whole (length pre + k) 0 * 256 ^ k ≡ x % 256 ^ suc k = rw (t, g, pow-succ') (omega (arith, mod-mul x {m = 256} {c = 256 ^ k} (omega arith) (one-le-pow k 256 (omega arith)))) in
+    ap (λ (l : List ℕ). little_at (pre ++ l) (length pre) (suc k)) (append_assoc (little_endian k x) (b ∷ []) rest) ∙ e
 
 pub little_back : (pre : List ℕ) (k x : ℕ) (rest : List ℕ) → x < 256 ^ k → little_at (pre ++ (little_endian k x ++ rest)) (length pre) k ≡ x
 little_back pre k x rest h = little_low pre x k rest ∙ mod-eq_of_lt h

@@ -5,7 +5,7 @@ use native.Mathlib.Decide.{dec_lt, ℕ_discrete}
 use mathlib.Core.Path.{◌≡◌, refl, sym, ap, ◌∙◌}
 use mathlib.Core.Bool.{Bool, true, false, cond, not, ◌||◌, true≢false}
 use mathlib.Core.List.{List}
-use borrow.Author.Tests.{not-true, not_false}
+use borrow.Author.Tests.{not-true, not-false}
 use Rattle.codec.proofs.Laws.Bools.{or_none}
 use Rattle.slices.specs.Limits.{chunk}
 use Rattle.slices.specs.Cover.{cover, is_nothing}
@@ -99,7 +99,7 @@ pub record Spans (xs : List Record) : Type 0 where
 
 pub something_covered : (xs : List Record) → covers_nothing xs ≡ false → any_below (is_covered xs) chunk ≡ true
 unfolding covers_nothing
-something_covered xs e = not_false (any_below (is_covered xs) chunk) e
+something_covered xs e = not-false (any_below (is_covered xs) chunk) e
 
 pub spans : (xs : List Record) → covers_nothing xs ≡ false → Spans xs
 unfolding first_covered last_covered

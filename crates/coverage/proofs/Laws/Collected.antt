@@ -4,7 +4,7 @@ use native.Mathlib.Omega.{arith}
 use native.Mathlib.Decide.{ℕ_discrete, dec_lt}
 use native.Mathlib.Numerals.{add-one}
 use mathlib.Core.Path.{◌≡◌, refl, sym, subst, ◌∙◌}
-use mathlib.Core.Bool.{Bool, true, false, ◌&&◌, and_true, and_false}
+use mathlib.Core.Bool.{Bool, true, false, ◌&&◌, and-true, and-false}
 use mathlib.Core.List.{List}
 use lib.Dec.{leb, ltb}
 use lib.ListN.{length, get_or, set}
@@ -29,7 +29,7 @@ before_window low high s a = rw (lt-leb low s a)
 
 pub behind_window : (low high s : ℕ) → high ≤ s → between low high s ≡ false
 unfolding between
-behind_window low high s a = rw (le-ltb s high a) (and_false (leb low s))
+behind_window low high s a = rw (le-ltb s high a) (and-false (leb low s))
 
 -- ---- no piece yet
 
@@ -45,7 +45,7 @@ module _ (plan : List ℕ) (low high k : ℕ) (keys : List ℕ) (c : ℕ) (h : C
   collected_many =
       sym (count_every c) ∙ h.same (λ (s l : ℕ). true)
       ∙ count_same (λ (i : ℕ). between low high (run_at plan i).start && true) (λ (i : ℕ). between low high (run_at plan i).start) k
-      (λ i _. and_true (between low high (run_at plan i).start))
+      (λ i _. and-true (between low high (run_at plan i).start))
 
   pub collected_held : (p : ℕ) → keyed keys c p ≡ held_in plan low high k p
   unfolding keys_that begun_that keyed held_in holds spans
@@ -69,7 +69,7 @@ module _ (plan : List ℕ) (low high k : ℕ) (keys : List ℕ) (c : ℕ) (h : C
     where
       go : (s : ℕ) (t : Bool) → Dec (s < edge) → (between low high s && (ltb s edge && t)) ≡ (between low edge s && t)
       go s t (yes y) = rw (lt-ltb s edge y, lt-ltb s high (omega arith))
-      go s t (no y) = rw (le-ltb s edge (omega arith), and_false (leb low s)) (and_false (leb low s && ltb s high))
+      go s t (no y) = rw (le-ltb s edge (omega arith), and-false (leb low s)) (and-false (leb low s && ltb s high))
 
   -- which is how it is narrowed where there is no room
   pub collected_narrowed : (new : List ℕ) (edge d : ℕ) → c ≤ length keys → length keys ≤ c → Narrowed keys low high new edge d → Collected plan low edge k new d

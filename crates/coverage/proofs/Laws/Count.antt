@@ -4,7 +4,7 @@ use native.Mathlib.Omega.{arith}
 use native.Mathlib.Decide.{ℕ_discrete, dec_lt}
 use mathlib.Core.Path.{◌≡◌, refl, sym, ap, ◌∙◌}
 use mathlib.Core.Logic.{◌≢◌}
-use mathlib.Core.Bool.{Bool, true, false, ◌&&◌, not, and_true, false≢true}
+use mathlib.Core.Bool.{Bool, true, false, ◌&&◌, not, and-true, false≢true}
 use lib.Dec.{eqb, leb, ltb}
 use borrow.Author.Tests.{lt-ltb, le-ltb, le-leb, lt-leb, ne_eqb, eqb-false, not-true}
 use Rattle.codec.proofs.Laws.Bools.{and_both}
@@ -93,10 +93,10 @@ count_but t v (suc m) = go (ℕ_discrete m v) (count_but t v m)
   where
     go : Dec (m ≡ v) → count_below t m ≤ suc (count_below (but t v) m) → count_below t m + one_if (t m) ≤ suc (count_below (but t v) m + one_if (but t v m))
     go (yes e) f =
-        let s = count_same t (but t v) m (λ i l. rw (ne_eqb i v (λ x. omega arith)) (sym (and_true (t i)))) in
+        let s = count_same t (but t v) m (λ i l. rw (ne_eqb i v (λ x. omega arith)) (sym (and-true (t i)))) in
         omega (arith, at_most_one (t m))
     go (no e) f =
-        let s : but t v m ≡ t m = rw (ne_eqb m v e) (and_true (t m)) in
+        let s : but t v m ≡ t m = rw (ne_eqb m v e) (and-true (t m)) in
         rw s (omega arith)
 
 -- f reaches each number below m that passes the test

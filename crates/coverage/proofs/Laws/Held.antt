@@ -8,7 +8,7 @@ use mathlib.Core.Bool.{Bool, true, false, not, cond}
 use mathlib.Core.List.{List, [], ◌∷◌, ◌++◌}
 use lib.Dec.{leb, eqb, ltb}
 use lib.ListN.{length}
-use borrow.Author.Tests.{le-leb, leb-true, ltb-true, le-ltb, lt-ltb, eq-eqb, ne_eqb, eqb-true, eqb-false, not-true, not_false}
+use borrow.Author.Tests.{le-leb, leb-true, ltb-true, le-ltb, lt-ltb, eq-eqb, ne_eqb, eqb-true, eqb-false, not-true, not-false}
 use Rattle.codec.specs.Groups.{groups_from, groups}
 use Rattle.codec.proofs.Laws.Bools.{and_both}
 use Rattle.codec.proofs.Laws.Groups.{groups_more}
@@ -45,7 +45,7 @@ first_none rs n once = first_is rs n n (omega arith) once (λ h. absurd (omega a
 
 pub first_before : (rs : List (Run Site)) (n p : ℕ) → p < first_not_once rs n → holders rs p ≡ 1
 unfolding first_not_once not_once
-first_before rs n p h = eqb-true (holders rs p) 1 (not_false (eqb (holders rs p) 1) (least_before (not_once rs) n p h))
+first_before rs n p h = eqb-true (holders rs p) 1 (not-false (eqb (holders rs p) 1) (least_before (not_once rs) n p h))
 
 pub first_other : (rs : List (Run Site)) (n : ℕ) → first_not_once rs n < n → holders rs (first_not_once rs n) ≢ 1
 unfolding first_not_once not_once

@@ -5,7 +5,7 @@ use native.Mathlib.Decide.{ℕ_discrete, dec_lt}
 use native.Mathlib.Nat.{add-zero}
 use native.Mathlib.Numerals.{add-one}
 use mathlib.Core.Path.{◌≡◌, refl, sym, ap, subst, ◌∙◌}
-use mathlib.Core.Bool.{Bool, true, false, ◌&&◌, and_false}
+use mathlib.Core.Bool.{Bool, true, false, ◌&&◌, and-false}
 use mathlib.Core.List.{List}
 use lib.Dec.{ltb}
 use lib.ListN.{length, get_or, set}
@@ -130,7 +130,7 @@ kept_again old c high keys d edge new e a b l =
   where
     go : (s : ℕ) (t : Bool) → Dec (s < edge) → (ltb s high && (ltb s edge && t)) ≡ (ltb s edge && t)
     go s t (yes x) = rw (lt-ltb s high (omega arith))
-    go s t (no x) = rw (le-ltb s edge (omega arith)) (and_false (ltb s high))
+    go s t (no x) = rw (le-ltb s edge (omega arith)) (and-false (ltb s high))
 
 -- ---- narrowed
 

@@ -3,7 +3,7 @@ use Prim.Native.Nat.{ℕ, ◌+◌, ◌≤◌, ◌<◌}
 use native.Mathlib.Omega.{arith}
 use native.Mathlib.Decide.{dec_lt}
 use mathlib.Core.Path.{◌≡◌, refl, sym, subst, ◌∙◌}
-use mathlib.Core.Bool.{Bool, true, false, ◌&&◌, and_false}
+use mathlib.Core.Bool.{Bool, true, false, ◌&&◌, and-false}
 use mathlib.Core.List.{List}
 use lib.Dec.{leb, ltb}
 use lib.ListN.{length}
@@ -94,4 +94,4 @@ held_before plan high p l =
   where
     go : (r : Run Site) (b : Bool) → holds r p ≡ b → (between 0 high r.start && b) ≡ b
     go r true e = rw (in_window 0 high r.start (omega arith) (omega (arith, (holds_both r p e).0)))
-    go r false e = and_false (between 0 high r.start)
+    go r false e = and-false (between 0 high r.start)

@@ -47,9 +47,9 @@ pub record Right (ns : List ℕ) (bytes first : ℕ) : Type 0 where
   pub adds : total ns ≡ bytes
   pub indexes : first + length ns ≤ 2 ^ 32
 
-not_false : (t : Bool) → not t ≡ false → t ≡ true
-not_false true h = refl
-not_false false h = sym h
+not-false : (t : Bool) → not t ≡ false → t ≡ true
+not-false true h = refl
+not-false false h = sym h
 
 pub right_chunks : (ns : List ℕ) (bytes first : ℕ) → wrong_chunks ns bytes first ≡ false → Right ns bytes first
 unfolding wrong_chunks
@@ -61,4 +61,4 @@ right_chunks ns bytes first h =
     let few = ltb-false max_lists (length ns) b.0 in
     let last = ltb-false max_index (first + length ns - 1) c.1 in
     let some : 0 < length ns = omega (arith, none) in
-    record { some = some; few = few; adds = eqb-true (total ns) bytes (not_false _ c.0); indexes = omega arith }
+    record { some = some; few = few; adds = eqb-true (total ns) bytes (not-false _ c.0); indexes = omega arith }

@@ -16,13 +16,13 @@ use Rattle.codec.proofs.Laws.Bools.{and_both}
 use Rattle.history.specs.History.{begins, Continues}
 use Rattle.history.specs.Inner.{UpTo}
 
-pub and_false : (t : Bool) → (t && false) ≡ false
-and_false true = refl
-and_false false = refl
+pub and-false : (t : Bool) → (t && false) ≡ false
+and-false true = refl
+and-false false = refl
 
-pub and_true : (t : Bool) → (t && true) ≡ t
-and_true true = refl
-and_true false = refl
+pub and-true : (t : Bool) → (t && true) ≡ t
+and-true true = refl
+and-true false = refl
 
 and_assoc : (a b c : Bool) → (a && (b && c)) ≡ ((a && b) && c)
 and_assoc true b c = refl
@@ -54,7 +54,7 @@ module _ (xs ys : List ℕ) (d i : ℕ) (inv : begins xs ys ≡ (eqb d 0 && begi
       ∙ rw (add-one, q)
 
   pub compared_all : length xs ≤ i → eqb d 0 ≡ begins xs ys
-  compared_all h = sym (inv ∙ ap (λ (t : Bool). eqb d 0 && t) (begins_end xs (drop i ys) i h) ∙ and_true (eqb d 0))
+  compared_all h = sym (inv ∙ ap (λ (t : Bool). eqb d 0 && t) (begins_end xs (drop i ys) i h) ∙ and-true (eqb d 0))
 
 -- ---- part by part
 
@@ -62,7 +62,7 @@ pub begins_longer : (xs ys : List ℕ) → length ys < length xs → begins xs y
 unfolding begins
 begins_longer [] ys h = absurd (omega arith)
 begins_longer (x ∷ xs) [] h = refl
-begins_longer (x ∷ xs) (y ∷ ys) h = rw (begins_longer xs ys (omega arith)) (and_false (eqb x y))
+begins_longer (x ∷ xs) (y ∷ ys) h = rw (begins_longer xs ys (omega arith)) (and-false (eqb x y))
 
 pub begins_cut : (k : ℕ) (xs ys : List ℕ) → k ≤ length ys → begins xs ys ≡ (begins (take k xs) ys && begins (drop k xs) (drop k ys))
 unfolding begins

@@ -27,12 +27,12 @@ use sound.WpLaws.{FmC, fm_of, WpFn-mono}
 use denote.RattleType.{owns}
 use denote.Laws.{Is, shows}
 use denote.Memory.{pointee}
-use denote.Plain.{uint_vals, uint_tells, uint_makes, uint_lawful}
+use denote.Plain.{uint_vals, uint_Tells, uint_Makes, uint_Lawful}
 use denote.Builtin.{usize, u64}
 use denote.Index.{place, place_is, elem_out, elem_back, looks_slice, shuts_slice}
 use denote.Ref.{Bor}
 use denote.Signature.{plain}
-use denote.Slice.{slice_ty, slice_val, ShrSlice, Room, shr_slice_vals, shr_slice_tells, shr_slice_copy}
+use denote.Slice.{slice_ty, slice_val, ShrSlice, Room, shr_slice_vals, shr_slice_Tells, shr_slice_copy}
 use denote.Steps.{owned, peeks, heard, nothing, only}
 use denote.Enum.Laws as EL
 use denote.Struct.Laws as LL
@@ -41,7 +41,7 @@ use denote.Triple.Call.{calls_at}
 use denote.Triple.Entry.{Vals, on_entry}
 use denote.Triple.Spec.{Meets, triple_of}
 use denote.Triple.Table.{entered, cited}
-use denote.Triple.Walked.{says, Stays, stay_none_slice, stay_none, walk_of, Goes-none_slice, Goes-none, Walks, ends_at, walked, walk_meets}
+use denote.Triple.Walked.{says, Stays, stay_none_slice, stay_none, walk_of, Goes-none_slice, Goes-none, Walks, ends_at, walked, walk_Meets}
 use denote.Exit.{yes as kept}
 use denote.Triple.Clauses.{ensured, lasts}
 use Rattle.slices.specs.declared.Record.{Record}
@@ -159,8 +159,8 @@ module _ {M : Type 1} {𝓤 : Ura M} (𝓛 : Logic 𝓤) (mem : Memory → SProp
 
   asks_fewer : number < 2 ^ 64 → length ys < 2 ^ 64 → ent 𝓤 (sem 𝓛 ftrue) ((Fewer 𝓛 mem run).pre to_fewer)
   asks_fewer g h =
-      qed 𝓛 (‵ ftrue ∷ []) ∵ owned ! usize (Is usize) (uint_makes 𝓛 w64) (length ys) _ (refl, h) $ move ! (0 ∷ 1 ∷ []) $ fjoin ! $
-      owned ! u64 (Is u64) (uint_makes 𝓛 w64) number _ (refl, g) $ fjoin ! $ nothing ! $ join ! $ frame ! $ done !
+      qed 𝓛 (‵ ftrue ∷ []) ∵ owned ! usize (Is usize) (uint_Makes 𝓛 w64) (length ys) _ (refl, h) $ move ! (0 ∷ 1 ∷ []) $ fjoin ! $
+      owned ! u64 (Is u64) (uint_Makes 𝓛 w64) number _ (refl, g) $ fjoin ! $ nothing ! $ join ! $ frame ! $ done !
 
   abbrev to_halve : ℕ → (Halve 𝓛 mem run).Ghost
   to_halve n = (((κ, tt), (q, tt), tt, (x, (n, (p, tt))), (sv ∷ [], (vint w64 n ∷ [], (vint w64 p ∷ [], tt)))), tt)
@@ -168,7 +168,7 @@ module _ {M : Type 1} {𝓤 : Ura M} (𝓛 : Logic 𝓤) (mem : Memory → SProp
   asks_halve : (n : ℕ) → n < 2 ^ 64 → p < 2 ^ 64 → (0 < n) × (n ≤ length ys) → ent 𝓤 (⋆ 𝓛 ((‵ (flft κ q) ⊛ ‵ ftrue) ∷ ‵ Own ∷ [])) ((Halve 𝓛 mem run).pre (to_halve n))
   asks_halve n gn gp e =
       qed 𝓛 ((‵ (flft κ q) ⊛ ‵ ftrue) ∷ ‵ Own ∷ []) ∵ says ! e $ frame ! $
-      nothing ! $ owned ! u64 (Is u64) (uint_makes 𝓛 w64) p _ (refl, gp) $ fjoin ! $ owned ! usize (Is usize) (uint_makes 𝓛 w64) n _ (refl, gn) $ fjoin ! $
+      nothing ! $ owned ! u64 (Is u64) (uint_Makes 𝓛 w64) p _ (refl, gp) $ fjoin ! $ owned ! usize (Is usize) (uint_Makes 𝓛 w64) n _ (refl, gn) $ fjoin ! $
       move ! (1 ∷ 0 ∷ []) $ fjoin ! $ done !
 
   abbrev to_held : ℕ → Record → (IfHeld 𝓛 mem run).Ghost
@@ -177,7 +177,7 @@ module _ {M : Type 1} {𝓤 : Ura M} (𝓛 : Logic 𝓤) (mem : Memory → SProp
   asks_held : (k : ℕ) (d : Record) → p < 2 ^ 64 → k < 2 ^ 64 → Is T.the_row d (vals d) → ent 𝓤 (sem 𝓛 ftrue) ((IfHeld 𝓛 mem run).pre (to_held k d))
   asks_held k d gp gk gd =
       qed 𝓛 (‵ ftrue ∷ []) ∵ owned ! T.the_row (Is T.the_row) (LL.makes T.the_type T'.the_plain 𝓛) d _ gd $ fjoin ! $
-      owned ! usize (Is usize) (uint_makes 𝓛 w64) k _ (refl, gk) $ fjoin ! $ owned ! u64 (Is u64) (uint_makes 𝓛 w64) p _ (refl, gp) $ fjoin ! $ nothing ! $ join ! $ frame ! $ done !
+      owned ! usize (Is usize) (uint_Makes 𝓛 w64) k _ (refl, gk) $ fjoin ! $ owned ! u64 (Is u64) (uint_Makes 𝓛 w64) p _ (refl, gp) $ fjoin ! $ nothing ! $ join ! $ frame ! $ done !
 
   module _ (C : Calls 𝓤 H) (Λ : Loops 𝓤 H) (fm : FmC 𝓤 H 𝓛.laws C) (known-fewer : Triple 𝓤 (C #fewer) (Fewer 𝓛 mem run)) (known-halve : Triple 𝓤 (C #halve) (Halve 𝓛 mem run)) (known-held : Triple 𝓤 (C #if-held) (IfHeld 𝓛 mem run)) where
     module _ (gs : Room T.the_row (length ys)) (gn : number < 2 ^ 64) (gp : p < 2 ^ 64) (l₀ l₁ l₂ l₃ l₄ l₅ l₆ l₇ l₈ l₉ l₁₀ : ℕ) where
@@ -245,7 +245,7 @@ module _ {M : Type 1} {𝓤 : Ura M} (𝓛 : Logic 𝓤) (mem : Memory → SProp
             use1 𝓛 (later (some (λ (r : ℕ). ((‵ (flft κ q) ⊛ ‵ ftrue) ⊛ ‵ (usize.own_val r (w ∷ []))) ⊛ raw (ensured 𝓛 halve.ended (halve.clauses 𝓛 mem run) (κ, tt) (x, (n, (p, tt))) tt r)))) (id⊢ 𝓤 _) $ await ! tt $ pick ! (λ k.
             split ! $ move ! (1 ∷ []) $ use1 𝓛 (raw (fact 𝓤 ((k ≡ seek.halve (λ (i : ℕ). (get_or ys i no_segment).pos) p n 0 n) × (k < n)))) (halve_said 𝓛 mem run κ x n p k) $
             heard ! ((k ≡ seek.halve (λ (i : ℕ). (get_or ys i no_segment).pos) p n 0 n) × (k < n)) (λ ek. split ! $ move ! (1 ∷ []) $
-            peeks ! usize (Is usize) (shows 𝓛 usize) k (w ∷ []) (λ iw. land ! (from ! (stop !)) (init ! 14 refl ((uint_lawful 𝓛 w64).typed k _ iw).0) $
+            peeks ! usize (Is usize) (shows 𝓛 usize) k (w ∷ []) (λ iw. land ! (from ! (stop !)) (init ! 14 refl ((uint_Lawful 𝓛 w64).typed k _ iw).0) $
             rewrite ! 14 (λ (u : Val). ‵ (fat full_share word l₅ 0 u)) (ap only iw.0) refl $ drop ! $ reads z k iw.1 ek))))
 
         -- nothing is looked at, or there is something to look at
@@ -272,7 +272,7 @@ module _ {M : Type 1} {𝓤 : Ura M} (𝓛 : Logic 𝓤) (mem : Memory → SProp
         calls_at ! fm (Fewer 𝓛 mem run) known-fewer to_fewer (and_then ! (load ! (from ! (stop !)) (look ! 9 refl)) (and_then ! (load ! (from ! (stop !)) (look ! 7 refl)) (no_more !))) (λ v.
         use1 𝓛 (later (some (λ (r : ℕ). (‵ ftrue ⊛ ‵ (usize.own_val r (v ∷ []))) ⊛ raw (ensured 𝓛 fewer.ended (fewer.clauses 𝓛 mem run) tt (number, (length ys, tt)) tt r)))) (id⊢ 𝓤 _) $ await ! tt $ pick ! (λ n.
         split ! $ move ! (1 ∷ []) $ use1 𝓛 (raw (fact 𝓤 (n ≡ min number (length ys)))) (fewer_said 𝓛 mem run number (length ys) n) $ heard ! (n ≡ min number (length ys)) (λ en. split ! $ drop ! $
-        peeks ! usize (Is usize) (shows 𝓛 usize) n (v ∷ []) (λ is. land ! (from ! (stop !)) (init ! 13 refl ((uint_lawful 𝓛 w64).typed n _ is).0) $
+        peeks ! usize (Is usize) (shows 𝓛 usize) n (v ∷ []) (λ is. land ! (from ! (stop !)) (init ! 13 refl ((uint_Lawful 𝓛 w64).typed n _ is).0) $
         rewrite ! 13 (λ (u : Val). ‵ (fat full_share word l₄ 0 u)) (ap only is.0) refl $ drop ! $
         assigns ! (bin ! (load ! (from ! (stop !)) (look ! 12 refl)) (lit ! tt) tt) (from ! (stop !)) (init ! 4 refl (tt, tt)) $
         move ! (22 ∷ 23 ∷ []) $ chosen gs gn gp l₀ l₁ l₂ l₃ l₄ l₅ l₆ l₇ l₈ l₉ l₁₀ n en is.1)))))))))))))))
@@ -282,14 +282,14 @@ module _ {M : Type 1} {𝓤 : Ura M} (𝓛 : Logic 𝓤) (mem : Memory → SProp
 
   find_walks : (C : Calls 𝓤 H) (Λ : Loops 𝓤 H) → FmC 𝓤 H 𝓛.laws C → Triple 𝓤 (C #fewer) (Fewer 𝓛 mem run) → Triple 𝓤 (C #halve) (Halve 𝓛 mem run) → Triple 𝓤 (C #if-held) (IfHeld 𝓛 mem run)
       → Walks 𝓛 find.ended stayed (WpFn 𝓤 H C Λ code.function) (find.clauses 𝓛 mem run)
-  find_walks C Λ fm known-fewer known-halve known-held = walked 𝓛 find.ended stayed (find.clauses 𝓛 mem run) (WpFn 𝓤 H C Λ code.function) (λ κs. (shr_slice_vals, (uint_vals w64, (uint_vals w64, tt)))) (λ κs. (shr_slice_tells (named 0) κs.0 T.the_row, (uint_tells w64, (uint_tells w64, tt))))
+  find_walks C Λ fm known-fewer known-halve known-held = walked 𝓛 find.ended stayed (find.clauses 𝓛 mem run) (WpFn 𝓤 H C Λ code.function) (λ κs. (shr_slice_vals, (uint_vals w64, (uint_vals w64, tt)))) (λ κs. (shr_slice_Tells (named 0) κs.0 T.the_row, (uint_Tells w64, (uint_Tells w64, tt))))
       (λ κs qs bounds a g are. via 𝓤 _ (fst∗ 𝓤 _ (emp 𝓤))
       (walk 𝓛 mem run κs.0 qs.0 a.0.ref_ptr.0 a.0.ref_ptr.1 0 a.0.now a.1.0 a.1.1.0 C Λ fm known-fewer known-halve known-held are.0.0.1 are.1.0.1 are.1.1.0.1))
 
 find_meets : {M : Type 1} {𝓤 : Ura M} (𝓛 : Logic 𝓤) (mem : Memory → SProp 𝓤) (run : Routine → Fun 𝓤) (𝓣 : Tables 𝓤 𝓛.H)
     → Triple 𝓤 (𝓣.C #fewer) (Fewer 𝓛 mem run) → Triple 𝓤 (𝓣.C #halve) (Halve 𝓛 mem run) → Triple 𝓤 (𝓣.C #if-held) (IfHeld 𝓛 mem run)
     → Meets 𝓛 find.signature (WpFn 𝓤 𝓛.H 𝓣.C 𝓣.Λ code.function) (find.spec 𝓛 mem run)
-find_meets {𝓤 = 𝓤} 𝓛 mem run 𝓣 known-fewer known-halve known-held = walk_meets 𝓛 find.ended stayed (Goes-none_slice 𝓛 1 (0 ∷ []) tt (plain (λ _. T.the_row)) kept, (Goes-none 𝓛 1 (λ _. usize) kept (λ κs x f. refl), (Goes-none 𝓛 1 (λ _. u64) kept (λ κs x f. refl), tt))) (find.clauses 𝓛 mem run) (WpFn 𝓤 𝓛.H 𝓣.C 𝓣.Λ code.function) (WpFn-mono 𝓤 𝓛.H 𝓛.laws 𝓣 code.function)
+find_meets {𝓤 = 𝓤} 𝓛 mem run 𝓣 known-fewer known-halve known-held = walk_Meets 𝓛 find.ended stayed (Goes-none_slice 𝓛 1 (0 ∷ []) tt (plain (λ _. T.the_row)) kept, (Goes-none 𝓛 1 (λ _. usize) kept (λ κs x f. refl), (Goes-none 𝓛 1 (λ _. u64) kept (λ κs x f. refl), tt))) (find.clauses 𝓛 mem run) (WpFn 𝓤 𝓛.H 𝓣.C 𝓣.Λ code.function) (WpFn-mono 𝓤 𝓛.H 𝓛.laws 𝓣 code.function)
     (find_walks 𝓛 mem run 𝓣.C 𝓣.Λ (fm_of 𝓤 𝓛.H 𝓛.laws 𝓣) known-fewer known-halve known-held)
 
 pub find_spec : {M : Type 1} → stated.statement M

@@ -26,11 +26,11 @@ use sound.WpLaws.{FmC, fm_of, WpFn-mono}
 use denote.RattleType.{owns}
 use denote.Laws.{Is, shows}
 use denote.Memory.{pointee}
-use denote.Plain.{uint_vals, uint_tells, uint_makes, uint_lawful}
+use denote.Plain.{uint_vals, uint_Tells, uint_Makes, uint_Lawful}
 use denote.Builtin.{u8, usize, u64, unit}
 use denote.Ref.{MutBor}
 use denote.Signature.{plain}
-use denote.Slice.{slice_ty, slice_val, ShrSlice, MutSlice, Room, finally, shr_slice_vals, shr_slice_tells, mut_slice_tells, shr_slice_copy}
+use denote.Slice.{slice_ty, slice_val, ShrSlice, MutSlice, Room, finally, shr_slice_vals, shr_slice_Tells, mut_slice_Tells, shr_slice_copy}
 use denote.Steps.{owned, peeks, heard, nothing, only}
 use denote.Enum.Laws as EL
 use denote.Triple.Statement.{Contract, Triple}
@@ -39,7 +39,7 @@ use denote.Triple.Clauses.{ensured, lasts}
 use denote.Triple.Entry.{Vals, on_entry}
 use denote.Triple.Spec.{Meets, triple_of}
 use denote.Triple.Table.{entered, cited}
-use denote.Triple.Walked.{says, Stays, stay_none_slice, stay_none, stay_slice, gave_slice, walk_of, Goes-none_slice, Goes-none, Goes-slice, Goes-gave_slice, Walks, ends_at, walked, walk_meets}
+use denote.Triple.Walked.{says, Stays, stay_none_slice, stay_none, stay_slice, gave_slice, walk_of, Goes-none_slice, Goes-none, Goes-slice, Goes-gave_slice, Walks, ends_at, walked, walk_Meets}
 use denote.Exit.{yes as kept}
 use Rattle.outcomes.specs.Outcome.{Outcome}
 use Rattle.slices.specs.Record.{count}
@@ -162,8 +162,8 @@ module _ {M : Type 1} {𝓤 : Ura M} (𝓛 : Logic 𝓤) (mem : Memory → SProp
   asks_view ν δ gc gr =
       qed 𝓛 ((‵ (flft κ₀ q₀) ⊛ ‵ (flft (ν ∷ []) full_share)) ∷ ‵ OwnL ∷ ‵ ((MutSlice (named 1) (ν ∷ []) u8).own_val (under δ bs) (bv ∷ [])) ∷ []) ∵
       split ! $ nothing ! $ move ! (2 ∷ 0 ∷ []) $ join ! $ move ! (1 ∷ 0 ∷ []) $ join ! $
-      nothing ! $ move ! (3 ∷ 0 ∷ []) $ fjoin ! $ owned ! usize (Is usize) (uint_makes 𝓛 w64) (length y.now) _ (refl, gr) $ fjoin ! $
-      owned ! u64 (Is u64) (uint_makes 𝓛 w64) c _ (refl, gc) $ fjoin ! $ move ! (2 ∷ 0 ∷ []) $ fjoin ! $ move ! (1 ∷ 0 ∷ []) $ join ! $ frame ! $ done !
+      nothing ! $ move ! (3 ∷ 0 ∷ []) $ fjoin ! $ owned ! usize (Is usize) (uint_Makes 𝓛 w64) (length y.now) _ (refl, gr) $ fjoin ! $
+      owned ! u64 (Is u64) (uint_Makes 𝓛 w64) c _ (refl, gc) $ fjoin ! $ move ! (2 ∷ 0 ∷ []) $ fjoin ! $ move ! (1 ∷ 0 ∷ []) $ join ! $ frame ! $ done !
 
   abbrev to_segments : Loaded → Val → (Segs 𝓛 mem run).Ghost
   to_segments a v = ((tt, tt, tt, (a, tt), (v ∷ [], tt)), tt)
@@ -180,7 +180,7 @@ module _ {M : Type 1} {𝓤 : Ura M} (𝓛 : Logic 𝓤) (mem : Memory → SProp
   asks_fill ν δ l n gn e =
       qed 𝓛 ((‵ (flft (ν ∷ []) full_share) ⊛ ‵ (flft κ₂ q₂)) ∷ ‵ ((ShrSlice (named 0) (ν ∷ []) u8).own_val (under δ l) (slice_val (b, o) (length l) ∷ [])) ∷ ‵ OwnR ∷ []) ∵
       says ! e $ split ! $ nothing ! $ move ! (2 ∷ 0 ∷ []) $ join ! $ move ! (1 ∷ 0 ∷ []) $ join ! $ frame ! $
-      nothing ! $ move ! (2 ∷ 0 ∷ []) $ fjoin ! $ owned ! usize (Is usize) (uint_makes 𝓛 w64) n _ (refl, gn) $ fjoin ! $ move ! (1 ∷ 0 ∷ []) $ fjoin ! $ done !
+      nothing ! $ move ! (2 ∷ 0 ∷ []) $ fjoin ! $ owned ! usize (Is usize) (uint_Makes 𝓛 w64) n _ (refl, gn) $ fjoin ! $ move ! (1 ∷ 0 ∷ []) $ fjoin ! $ done !
 
   -- ---- the exit
 
@@ -190,7 +190,7 @@ module _ {M : Type 1} {𝓤 : Ura M} (𝓛 : Logic 𝓤) (mem : Memory → SProp
       qed 𝓛 (‵ (flft κ₀ q₀) ∷ ‵ (flft κ₁ q₁) ∷ (‵ (flft κ₂ q₂) ⊛ ‵ ftrue) ∷ ‵ OwnL ∷ ‵ (OwnB l) ∷ ‵ (finally T.the_row y.name zs) ∷ []) ∵
       suffices ! _ (ends_at 𝓛 load'.ended stayed (load'.clauses 𝓛 mem run) bound v a (tt, (tt, (l, (zs, tt)))) (tt, (tt, (el, (ez, tt))))) $ says ! e $
       move ! (1 ∷ 2 ∷ []) $ join ! $ move ! (1 ∷ 0 ∷ []) $ join ! $ frame ! $
-      nothing ! $ move ! (3 ∷ 0 ∷ []) $ fjoin ! $ move ! (2 ∷ 0 ∷ []) $ fjoin ! $ owned ! u64 (Is u64) (uint_makes 𝓛 w64) c _ (refl, gc) $ fjoin ! $ move ! (1 ∷ 0 ∷ []) $ fjoin ! $ frame ! $
+      nothing ! $ move ! (3 ∷ 0 ∷ []) $ fjoin ! $ move ! (2 ∷ 0 ∷ []) $ fjoin ! $ owned ! u64 (Is u64) (uint_Makes 𝓛 w64) c _ (refl, gc) $ fjoin ! $ move ! (1 ∷ 0 ∷ []) $ fjoin ! $ frame ! $
       owned ! L.the_row (Is L.the_row) (EL.makes L.the_type L'.the_plain 𝓛) a _ is $ done !
 
   module _ (C : Calls 𝓤 H) (Λ : Loops 𝓤 H) (fm : FmC 𝓤 H 𝓛.laws C) (known-view : Triple 𝓤 (C #view) (View 𝓛 mem run)) (known-segments : Triple 𝓤 (C #segments) (Segs 𝓛 mem run)) (known-fill : Triple 𝓤 (C #fill) (Fills 𝓛 mem run))
@@ -258,7 +258,7 @@ module _ {M : Type 1} {𝓤 : Ura M} (𝓛 : Logic 𝓤) (mem : Memory → SProp
           calls_at ! fm (Segs 𝓛 mem run) known-segments (to_segments a v) (and_then ! (load ! (from ! (stop !)) (look ! 25 refl)) (no_more !)) (λ w.
           use1 𝓛 (later (some (λ (r : ℕ). (‵ ftrue ⊛ ‵ (usize.own_val r (w ∷ []))) ⊛ raw (ensured 𝓛 segments.ended (segments.clauses 𝓛 mem run) tt (a, tt) tt r)))) (id⊢ 𝓤 _) $ await ! tt $ pick ! (λ n.
           split ! $ move ! (1 ∷ []) $ use1 𝓛 (raw (fact 𝓤 (n ≡ segments_in a))) (segments_said 𝓛 mem run a n) $ heard ! (n ≡ segments_in a) (λ en. split ! $ drop ! $
-          peeks ! usize (Is usize) (shows 𝓛 usize) n (w ∷ []) (λ iw. land ! (from ! (stop !)) (init ! 23 refl ((uint_lawful 𝓛 w64).typed n _ iw).0) $
+          peeks ! usize (Is usize) (shows 𝓛 usize) n (w ∷ []) (λ iw. land ! (from ! (stop !)) (init ! 23 refl ((uint_Lawful 𝓛 w64).typed n _ iw).0) $
           rewrite ! 23 (λ (u : Val). ‵ (fat full_share word l₆ 0 u)) (ap only iw.0) refl $ drop ! $ fills n iw.1 en))))
 
     walk : ent 𝓤 (on_entry 𝓛 load'.signature (κ₀, (κ₁, (κ₂, tt))) (q₀, (q₁, (q₂, tt))) (x, (c, (under γ bs, (y, tt)))) at) (WpFn 𝓤 H C Λ code.function (xv ∷ vint w64 c ∷ bv ∷ yv ∷ []) Post)
@@ -295,7 +295,7 @@ module _ {M : Type 1} {𝓤 : Ura M} (𝓛 : Logic 𝓤) (mem : Memory → SProp
   load_walks : (C : Calls 𝓤 H) (Λ : Loops 𝓤 H) → FmC 𝓤 H 𝓛.laws C → Triple 𝓤 (C #view) (View 𝓛 mem run) → Triple 𝓤 (C #segments) (Segs 𝓛 mem run) → Triple 𝓤 (C #fill) (Fills 𝓛 mem run)
       → Walks 𝓛 load'.ended stayed (WpFn 𝓤 H C Λ code.function) (load'.clauses 𝓛 mem run)
   load_walks C Λ fm known-view known-segments known-fill = walked 𝓛 load'.ended stayed (load'.clauses 𝓛 mem run) (WpFn 𝓤 H C Λ code.function) (λ κs. (shr_slice_vals, (uint_vals w64, (shr_slice_vals, (shr_slice_vals, tt)))))
-      (λ κs. (shr_slice_tells (named 0) κs.0 u8, (uint_tells w64, (mut_slice_tells (named 1) κs.1.0 u8, (mut_slice_tells (named 2) κs.1.1.0 T.the_row, tt)))))
+      (λ κs. (shr_slice_Tells (named 0) κs.0 u8, (uint_Tells w64, (mut_slice_Tells (named 1) κs.1.0 u8, (mut_slice_Tells (named 2) κs.1.1.0 T.the_row, tt)))))
       (λ κs qs bounds a g are. via 𝓤 _ (fst∗ 𝓤 _ (emp 𝓤))
       (walk 𝓛 mem run κs.0 κs.1.0 κs.1.1.0 qs.0 qs.1.0 qs.1.1.0 a.0 a.1.0 a.1.1.0.ref_ptr.0 a.1.1.0.ref_ptr.1 a.1.1.0.ghost_name a.1.1.0.now a.1.1.1.0
       C Λ fm known-view known-segments known-fill are.0.0.1 are.1.0.1 are.1.1.0.0.1 are.1.1.1.0.0.1))
@@ -304,7 +304,7 @@ load_meets : {M : Type 1} {𝓤 : Ura M} (𝓛 : Logic 𝓤) (mem : Memory → S
     → Triple 𝓤 (𝓣.C #view) (View 𝓛 mem run) → Triple 𝓤 (𝓣.C #segments) (Segs 𝓛 mem run) → Triple 𝓤 (𝓣.C #fill) (Fills 𝓛 mem run)
     → Meets 𝓛 load'.signature (WpFn 𝓤 𝓛.H 𝓣.C 𝓣.Λ code.function) (load'.spec 𝓛 mem run)
 load_meets {𝓤 = 𝓤} 𝓛 mem run 𝓣 known-view known-segments known-fill =
-    walk_meets 𝓛 load'.ended stayed (Goes-none_slice 𝓛 3 (0 ∷ []) tt (plain (λ _. u8)) kept, (Goes-none 𝓛 3 (λ _. u64) kept (λ κs x f. refl), (Goes-slice 𝓛 3 1 tt (plain (λ _. u8)), (Goes-gave_slice 𝓛 3 2 tt (plain (λ _. T.the_row)), tt))))
+    walk_Meets 𝓛 load'.ended stayed (Goes-none_slice 𝓛 3 (0 ∷ []) tt (plain (λ _. u8)) kept, (Goes-none 𝓛 3 (λ _. u64) kept (λ κs x f. refl), (Goes-slice 𝓛 3 1 tt (plain (λ _. u8)), (Goes-gave_slice 𝓛 3 2 tt (plain (λ _. T.the_row)), tt))))
     (load'.clauses 𝓛 mem run) (WpFn 𝓤 𝓛.H 𝓣.C 𝓣.Λ code.function) (WpFn-mono 𝓤 𝓛.H 𝓛.laws 𝓣 code.function)
     (load_walks 𝓛 mem run 𝓣.C 𝓣.Λ (fm_of 𝓤 𝓛.H 𝓛.laws 𝓣) known-view known-segments known-fill)
 

@@ -61,11 +61,11 @@ module _ (r : Record) where
   -- neither of refusal 5's two faults
   zeros_clear : r.off ≡ 0 → (r.size ≡ 0) ⊎ (r.size ≡ r.len) → (not (eqb r.off 0) || (not (eqb r.size 0) && not (eqb r.size r.len))) ≡ false
   zeros_clear o (inl s) = rw (eq-eqb r.off 0 o, eq-eqb r.size 0 s)
-  zeros_clear o (inr s) = rw (eq-eqb r.off 0 o, eq-eqb r.size r.len s) (and_false (not (eqb r.size 0)))
+  zeros_clear o (inr s) = rw (eq-eqb r.off 0 o, eq-eqb r.size r.len s) (and-false (not (eqb r.size 0)))
     where
-      and_false : (a : Bool) → (a && false) ≡ false
-      and_false true = refl
-      and_false false = refl
+      and-false : (a : Bool) → (a && false) ≡ false
+      and-false true = refl
+      and-false false = refl
 
   zeros_none : Passes r → (a : Bool) → eqb r.id 0 ≡ a
       → (a && (not (eqb r.off 0) || (not (eqb r.size 0) && not (eqb r.size r.len)))) ≡ false
@@ -237,15 +237,15 @@ pub none_accepts : (bs : List ℕ) → NoneHolds (list_rows bs) → Accepts bs
 unfolding list_rows not_whole too_many
 none_accepts bs h =
     record {
-      whole = not_false (eqb (length bs % record_size) 0) refl h.0;
+      whole = not-false (eqb (length bs % record_size) 0) refl h.0;
       few = ltb-false max_records (count bs) h.1.0;
       pass = rows_pass 0 (records bs) (all_left clear (rows_from 0 (records bs)) (size_rows [] 0 (records bs)) h.1.1);
       one_size = none_one_size (records bs) (all_right clear (rows_from 0 (records bs)) (size_rows [] 0 (records bs)) h.1.1);
     }
   where
-    not_false : (t : Bool) → eqb (length bs % record_size) 0 ≡ t → not t ≡ false → length bs % record_size ≡ 0
-    not_false true e g = eqb-true (length bs % record_size) 0 e
-    not_false false e g = absurd (false≢true (sym g))
+    not-false : (t : Bool) → eqb (length bs % record_size) 0 ≡ t → not t ≡ false → length bs % record_size ≡ 0
+    not-false true e g = eqb-true (length bs % record_size) 0 e
+    not-false false e g = absurd (false≢true (sym g))
 
 accepts_none : (bs : List ℕ) → Accepts bs → NoneHolds (list_rows bs)
 unfolding list_rows not_whole too_many

@@ -32,11 +32,11 @@ use denote.RattleType.{owns}
 use denote.Laws.{Is, shows}
 use denote.Lend.{Held}
 use denote.Memory.{pointee}
-use denote.Plain.{uint_vals, uint_tells, uint_makes}
+use denote.Plain.{uint_vals, uint_Tells, uint_Makes}
 use denote.Builtin.{u8, usize}
 use denote.Ref.{Bor, MutBor}
 use denote.Shadow.{pure_i}
-use denote.Slice.{slice_ty, slice_val, ShrSlice, MutSlice, Room, shr_slice_vals, mut_slice_vals, shr_slice_tells, mut_slice_tells, shr_slice_copy, mut_slice_at, coded_holeys, heres}
+use denote.Slice.{slice_ty, slice_val, ShrSlice, MutSlice, Room, shr_slice_vals, mut_slice_vals, shr_slice_Tells, mut_slice_Tells, shr_slice_copy, mut_slice_at, coded_holeys, heres}
 use denote.Index.{place_is, row, elem_out, elem_put, opens_slice, closes_slice}
 use denote.Signature.{plain}
 use denote.Steps.{nothing, owned, peeks, heard, only}
@@ -47,7 +47,7 @@ use denote.Triple.Clauses.{ensured, lasts}
 use denote.Triple.Entry.{Vals, on_entry}
 use denote.Triple.Spec.{Meets, triple_of}
 use denote.Triple.Table.{entered, cited}
-use denote.Triple.Walked.{says, needs, Stays, stay_none_slice, stay_none, stay_slice, walk_of, Walks, ends_at, walked, Goes-none_slice, Goes-none, Goes-slice, walk_meets}
+use denote.Triple.Walked.{says, needs, Stays, stay_none_slice, stay_none, stay_slice, walk_of, Walks, ends_at, walked, Goes-none_slice, Goes-none, Goes-slice, walk_Meets}
 use denote.Exit.{yes as kept}
 use Rattle.slices.specs.Limits.{record_size}
 use Rattle.slices.specs.Record.{count, record_at}
@@ -135,7 +135,7 @@ module _ {M : Type 1} {𝓤 : Ura M} (𝓛 : Logic 𝓤) (mem : Memory → SProp
       suffices ! _ (ends_at 𝓛 fill.ended stayed (fill.clauses 𝓛 mem run) bound vunit tt (tt, (tt, (zs, tt))) (tt, (tt, (length-filled bs ys n h, tt)))) $ says ! refl $
       nothing ! $ move ! (3 ∷ 0 ∷ []) $ join ! $ move ! (3 ∷ 0 ∷ []) $ join ! $ frame ! $ fjoin ! $
       pure_i ! (mut_slice_at T.the_row (record { ref_ptr = (b, o); ghost_name = γ; now = zs }) (yv ∷ [])) (tt, (tt, tt)) (ap (λ (m : ℕ). slice_val (b, o) m ∷ []) (sym (length-filled bs ys n h)), subst (Room T.the_row) (sym (length-filled bs ys n h)) gs) $ fjoin ! $
-      nothing ! $ move ! (1 ∷ 0 ∷ []) $ fjoin ! $ owned ! usize (Is usize) (uint_makes 𝓛 w64) n _ (refl, gn) $ fjoin ! $ move ! (1 ∷ 0 ∷ []) $ fjoin ! $ frame ! $
+      nothing ! $ move ! (1 ∷ 0 ∷ []) $ fjoin ! $ owned ! usize (Is usize) (uint_Makes 𝓛 w64) n _ (refl, gn) $ fjoin ! $ move ! (1 ∷ 0 ∷ []) $ fjoin ! $ frame ! $
       feq_i ! (List Val) (vunit ∷ []) (vunit ∷ []) refl $ done !
 
   -- ---- what `read_record` asks
@@ -146,7 +146,7 @@ module _ {M : Type 1} {𝓤 : Ura M} (𝓛 : Logic 𝓤) (mem : Memory → SProp
   asks_read : (i : ℕ) → i < 2 ^ 64 → i * record_size + record_size ≤ length bs → ent 𝓤 (⋆ 𝓛 (‵ (flft κ₀ q₀) ∷ ‵ Own ∷ [])) ((Read 𝓛 mem run).pre (to_read i))
   asks_read i gi e =
       qed 𝓛 (‵ (flft κ₀ q₀) ∷ ‵ Own ∷ []) ∵ says ! e $ nothing ! $ move ! (1 ∷ 0 ∷ []) $ join ! $ frame ! $
-      nothing ! $ owned ! usize (Is usize) (uint_makes 𝓛 w64) i _ (refl, gi) $ fjoin ! $ move ! (1 ∷ 0 ∷ []) $ fjoin ! $ done !
+      nothing ! $ owned ! usize (Is usize) (uint_Makes 𝓛 w64) i _ (refl, gi) $ fjoin ! $ move ! (1 ∷ 0 ∷ []) $ fjoin ! $ done !
 
   module _ (𝓣 : Tables 𝓤 H) (known : Triple 𝓤 (𝓣.C #read-record) (Read 𝓛 mem run)) (gs : Room T.the_row (length ys)) (gn : n < 2 ^ 64) (hb : n ≤ count bs) (hy : n ≤ length ys) (l₀ l₁ l₂ l₃ l₄ l₅ l₆ l₇ l₈ : ℕ) where
     abbrev C : Calls 𝓤 H
@@ -289,13 +289,13 @@ module _ {M : Type 1} {𝓤 : Ura M} (𝓛 : Logic 𝓤) (mem : Memory → SProp
   open 𝓛 use {H}
 
   fill_walks : (𝓣 : Tables 𝓤 H) → Triple 𝓤 (𝓣.C #read-record) (Read 𝓛 mem run) → Walks 𝓛 fill.ended stayed (WpFn 𝓤 H 𝓣.C 𝓣.Λ code.function) (fill.clauses 𝓛 mem run)
-  fill_walks 𝓣 known = walked 𝓛 fill.ended stayed (fill.clauses 𝓛 mem run) (WpFn 𝓤 H 𝓣.C 𝓣.Λ code.function) (λ κs. (shr_slice_vals, (uint_vals w64, (mut_slice_vals, tt)))) (λ κs. (shr_slice_tells (named 0) κs.0 u8, (uint_tells w64, (mut_slice_tells (named 1) κs.1.0 T.the_row, tt))))
+  fill_walks 𝓣 known = walked 𝓛 fill.ended stayed (fill.clauses 𝓛 mem run) (WpFn 𝓤 H 𝓣.C 𝓣.Λ code.function) (λ κs. (shr_slice_vals, (uint_vals w64, (mut_slice_vals, tt)))) (λ κs. (shr_slice_Tells (named 0) κs.0 u8, (uint_Tells w64, (mut_slice_Tells (named 1) κs.1.0 T.the_row, tt))))
       (λ κs qs bounds a g are. needs 𝓤 _ _
       (walk 𝓛 mem run κs.0 κs.1.0 qs.0 qs.1.0 a.0 a.1.0 a.1.1.0.ref_ptr.0 a.1.1.0.ref_ptr.1 a.1.1.0.ghost_name a.1.1.0.now 𝓣 known are.0.0.1 are.1.0.1 are.1.1.0.0.1))
 
 fill_meets : {M : Type 1} {𝓤 : Ura M} (𝓛 : Logic 𝓤) (mem : Memory → SProp 𝓤) (run : Routine → Fun 𝓤) (𝓣 : Tables 𝓤 𝓛.H) → Triple 𝓤 (𝓣.C #read-record) (Read 𝓛 mem run)
     → Meets 𝓛 fill.signature (WpFn 𝓤 𝓛.H 𝓣.C 𝓣.Λ code.function) (fill.spec 𝓛 mem run)
-fill_meets {𝓤 = 𝓤} 𝓛 mem run 𝓣 known = walk_meets 𝓛 fill.ended stayed (Goes-none_slice 𝓛 2 (0 ∷ []) tt (plain (λ _. u8)) kept, (Goes-none 𝓛 2 (λ _. usize) kept (λ κs x f. refl), (Goes-slice 𝓛 2 1 tt (plain (λ _. T.the_row)), tt))) (fill.clauses 𝓛 mem run) (WpFn 𝓤 𝓛.H 𝓣.C 𝓣.Λ code.function) (WpFn-mono 𝓤 𝓛.H 𝓛.laws 𝓣 code.function)
+fill_meets {𝓤 = 𝓤} 𝓛 mem run 𝓣 known = walk_Meets 𝓛 fill.ended stayed (Goes-none_slice 𝓛 2 (0 ∷ []) tt (plain (λ _. u8)) kept, (Goes-none 𝓛 2 (λ _. usize) kept (λ κs x f. refl), (Goes-slice 𝓛 2 1 tt (plain (λ _. T.the_row)), tt))) (fill.clauses 𝓛 mem run) (WpFn 𝓤 𝓛.H 𝓣.C 𝓣.Λ code.function) (WpFn-mono 𝓤 𝓛.H 𝓛.laws 𝓣 code.function)
     (fill_walks 𝓛 mem run 𝓣 known)
 
 pub fill_spec : {M : Type 1} → stated.statement M

@@ -32,9 +32,9 @@ use types.Share.{arr_parts}
 use denote.RattleType.{owns}
 use denote.Laws.{Is, shows}
 use denote.Memory.{pointee, shares}
-use denote.Plain.{uint_vals, uint_tells}
+use denote.Plain.{uint_vals, uint_Tells}
 use denote.Builtin.{usize, u64}
-use denote.Slice.{slice_ty, slice_val, ShrSlice, Room, shr_slice_vals, shr_slice_tells, shr_slice_at, coded_holeys, heres}
+use denote.Slice.{slice_ty, slice_val, ShrSlice, Room, shr_slice_vals, shr_slice_Tells, shr_slice_at, coded_holeys, heres}
 use denote.Index.{place_is, row, elem_out, elem_back, looks_slice, shuts_slice}
 use denote.Signature.{plain}
 use denote.Steps.{nothing}
@@ -42,7 +42,7 @@ use denote.Struct.Laws as LL
 use denote.Triple.Entry.{Vals, on_entry}
 use denote.Triple.Spec.{Meets, triple_of}
 use denote.Triple.Table.{entered}
-use denote.Triple.Walked.{says, needs, Stays, stay_none_slice, stay_none, walk_of, Walks, ends_at, walked, Goes-none_slice, Goes-none, walk_meets}
+use denote.Triple.Walked.{says, needs, Stays, stay_none_slice, stay_none, walk_of, Walks, ends_at, walked, Goes-none_slice, Goes-none, walk_Meets}
 use denote.Exit.{yes as kept}
 use Rattle.slices.specs.declared.Record.{Record}
 use Rattle.slices.specs.contracts.Record as T
@@ -271,13 +271,13 @@ module _ {M : Type 1} {𝓤 : Ura M} (𝓛 : Logic 𝓤) (mem : Memory → SProp
   open 𝓛 use {H}
 
   halve_walks : (𝓣 : Tables 𝓤 H) → Walks 𝓛 halve.ended stayed (WpFn 𝓤 H 𝓣.C 𝓣.Λ code.function) (halve.clauses 𝓛 mem run)
-  halve_walks 𝓣 = walked 𝓛 halve.ended stayed (halve.clauses 𝓛 mem run) (WpFn 𝓤 H 𝓣.C 𝓣.Λ code.function) (λ κs. (shr_slice_vals, (uint_vals w64, (uint_vals w64, tt)))) (λ κs. (shr_slice_tells (named 0) κs.0 T.the_row, (uint_tells w64, (uint_tells w64, tt))))
+  halve_walks 𝓣 = walked 𝓛 halve.ended stayed (halve.clauses 𝓛 mem run) (WpFn 𝓤 H 𝓣.C 𝓣.Λ code.function) (λ κs. (shr_slice_vals, (uint_vals w64, (uint_vals w64, tt)))) (λ κs. (shr_slice_Tells (named 0) κs.0 T.the_row, (uint_Tells w64, (uint_Tells w64, tt))))
       (λ κs qs bounds a g are. needs 𝓤 _ _
       (walk 𝓛 mem run κs.0 qs.0 a.0.ref_ptr.0 a.0.ref_ptr.1 0 a.0.now a.1.0 a.1.1.0 𝓣 are.0.0.1 are.1.0.1 are.1.1.0.1))
 
 halve_meets : {M : Type 1} {𝓤 : Ura M} (𝓛 : Logic 𝓤) → (mem : Memory → SProp 𝓤) (run : Routine → Fun 𝓤) (𝓣 : Tables 𝓤 𝓛.H)
     → Meets 𝓛 halve.signature (WpFn 𝓤 𝓛.H 𝓣.C 𝓣.Λ code.function) (halve.spec 𝓛 mem run)
-halve_meets {𝓤 = 𝓤} 𝓛 mem run 𝓣 = walk_meets 𝓛 halve.ended stayed (Goes-none_slice 𝓛 1 (0 ∷ []) tt (plain (λ _. T.the_row)) kept, (Goes-none 𝓛 1 (λ _. usize) kept (λ κs x f. refl), (Goes-none 𝓛 1 (λ _. u64) kept (λ κs x f. refl), tt))) (halve.clauses 𝓛 mem run) (WpFn 𝓤 𝓛.H 𝓣.C 𝓣.Λ code.function) (WpFn-mono 𝓤 𝓛.H 𝓛.laws 𝓣 code.function) (halve_walks 𝓛 mem run 𝓣)
+halve_meets {𝓤 = 𝓤} 𝓛 mem run 𝓣 = walk_Meets 𝓛 halve.ended stayed (Goes-none_slice 𝓛 1 (0 ∷ []) tt (plain (λ _. T.the_row)) kept, (Goes-none 𝓛 1 (λ _. usize) kept (λ κs x f. refl), (Goes-none 𝓛 1 (λ _. u64) kept (λ κs x f. refl), tt))) (halve.clauses 𝓛 mem run) (WpFn 𝓤 𝓛.H 𝓣.C 𝓣.Λ code.function) (WpFn-mono 𝓤 𝓛.H 𝓛.laws 𝓣 code.function) (halve_walks 𝓛 mem run 𝓣)
 
 pub halve-spec : {M : Type 1} → stated.statement M
 unfolding code.routine tables_of

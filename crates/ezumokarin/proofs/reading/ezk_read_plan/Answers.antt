@@ -1,0 +1,10 @@
+-- `ezumokarin::reading::ezk_read_plan` meets its contract: it passes the answer on. Assumes nothing.
+use mathlib.Core.Path.{ap, ◌∙◌}
+use Rattle.ezumokarin.specs.Plain.{plain_answer}
+use Rattle.ezumokarin.proofs.Laws.{plain_wrote}
+use Rattle.ezumokarin.proofs.reading.ezk_read_plan.Goals as goal
+
+pub returns : goal.returns
+returns c =
+    let a = c.read_plan.ensures in
+    record { value = c.of_answer.ensures ∙ ap plain_answer a.answers ∙ plain_wrote _; out_after = a.leaves.0 }

@@ -1,0 +1,10 @@
+-- `ezumokarin::steps::ezk_next_file_piece` meets its contract: it passes the answer on. Assumes nothing.
+use mathlib.Core.Path.{ap, ◌∙◌}
+use Rattle.stepping.specs.declared.FileNext.{FileNext}
+use Rattle.ezumokarin.specs.Steps.{plain_file_next}
+use Rattle.ezumokarin.proofs.Laws.{plain_file_next_lem}
+use Rattle.ezumokarin.proofs.steps.ezk_next_file_piece.Goals as goal
+
+pub returns : goal.returns
+returns c =
+    c.of_file_next.ensures ∙ ap (λ (n : FileNext). plain_file_next n c.args.at) c.next_file_piece.ensures ∙ plain_file_next_lem _ _

@@ -1,0 +1,58 @@
+-- `judging::leading::lead_on` meets its contract. The invariant: the pieces before `number` stand in order up to `place`. Assumes nothing.
+use Prim.Native.Nat.{◌-◌}
+use native.Mathlib.Omega.{arith}
+use mathlib.Core.Path.{refl}
+use Rattle.slices.specs.Limits.{chunk}
+use Rattle.judging.proofs.Laws.Places.{some_segment}
+use Rattle.judging.proofs.Laws.Leading.{leads_start, next_fits, next_some, next_inside, leads_more}
+use Rattle.judging.proofs.leading.lead_on.Goals as goal
+
+pub loop-number-init : goal.loop-number-init
+loop-number-init c =
+    (leads_start _ _ _ _ _ _ _ _ _ c.requires.number_in_bounds.0 c.requires.number_in_bounds.1 c.requires.number_in_bounds.2, some_segment _ _ _ _ c.requires.ready.resolved)
+
+pub read_piece-p-requires : goal.read_piece-p-requires
+read_piece-p-requires c = omega (arith, c.loop-number-test.true)
+
+pub comes_next-requires : goal.comes_next-requires
+comes_next-requires c = c.requires.n_bound.0
+
+pub overflow_add-q : goal.overflow_add-q
+overflow_add-q c = omega (arith, c.loop-number.invariant.0.inside, c.requires.n_bound.0)
+
+pub overflow_add-q-then-comes_next : goal.overflow_add-q-then-comes_next
+unfolding chunk
+overflow_add-q-then-comes_next c =
+    let t = c.comes_next.ensures c.if-comes_next.true in
+    omega (arith, next_fits _ _ _ _ _ t.0 t.1)
+
+pub meet-met-requires : goal.meet-met-requires
+unfolding chunk
+meet-met-requires c =
+    let t = c.comes_next.ensures c.if-comes_next.true in
+    let s = next_some _ _ _ _ _ t.0 t.1 in
+    record { ready = c.requires.ready; q_lt_end = (omega arith, next_fits _ _ _ _ _ t.0 t.1, c.loop-number.invariant.1, c.requires.n_bound.1) }
+
+pub overflow_add-number : goal.overflow_add-number
+overflow_add-number c = omega (arith, c.loop-number-test.true, c.well-formed)
+
+pub overflow_add-place : goal.overflow_add-place
+unfolding chunk
+overflow_add-place c =
+    let t = c.comes_next.ensures c.if-comes_next.true in
+    omega (arith, next_inside _ _ _ _ _ t.0 t.1, c.requires.n_bound.0)
+
+pub loop-number-preserved : goal.loop-number-preserved
+unfolding chunk
+loop-number-preserved c =
+    let t = c.comes_next.ensures c.if-comes_next.true in
+    (leads_more _ _ _ _ _ _ _ _ _ _ c.read_piece-p.ensures t.0 t.1 c.loop-number.invariant.0 c.loop-number-test.true t.2 _ _ refl refl (c.meet-met.ensures.lies_at.0 c.if-met.true), c.meet-met.ensures.segment_lt_m)
+
+pub returns-else-met : goal.returns-else-met
+returns-else-met c = c.loop-number.invariant.0
+
+pub returns-else-comes_next : goal.returns-else-comes_next
+returns-else-comes_next c = c.loop-number.invariant.0
+
+pub returns : goal.returns
+returns c = c.loop-number.invariant.0

@@ -1,0 +1,16 @@
+-- `judging::sifting::sift_list` meets its contract. Assumes nothing.
+use Rattle.judging.proofs.Laws.Sifting.{sift_nowhere}
+use Rattle.judging.proofs.sifting.sift_list.Goals as goal
+
+pub returns-then-part : goal.returns-then-part
+returns-then-part c =
+    let p = c.part-part.ensures in
+    sift_nowhere _ _ _ _ _ _ _ _ _ _ p.0 p.1 c.if-part.true c.requires.limit_in_bounds.1
+
+pub resolve-m-requires : goal.resolve-m-requires
+resolve-m-requires c =
+    record { all = c.requires.resolvable.0.pass; list_bound = c.requires.resolvable.0.few; list_in_bounds = (c.requires.resolvable.1.marks-fit, c.requires.resolvable.1.tops_fit); list_in_bounds_2 = (c.requires.resolvable.1.pos-fit, c.requires.resolvable.1.ends-fit, c.requires.resolvable.1.order-fit, c.requires.resolvable.1.spare-fit) }
+
+pub sift_on-requires : goal.sift_on-requires
+sift_on-requires c =
+    record { ready = c.resolve-m.ensures; n_bound = (c.requires.k_lt_max_lists.1, c.requires.k_lt_max_lists.2); limit_in_bounds = c.requires.limit_in_bounds }

@@ -1,0 +1,69 @@
+-- `listing::text` meets its contract: each answer is that of its case. Assumes nothing.
+use Prim.Native.Nat.{◌≤◌}
+use native.Mathlib.Omega.{arith}
+use mathlib.Core.Path.{sym, ap, ◌∙◌}
+use lib.ListN.{length, length-take}
+use Rattle.slices.specs.Limits.{chunk}
+use Rattle.outcomes.specs.Outcome.{done}
+use Rattle.outcomes.specs.Answers.{Answers, Written}
+use Rattle.outcomes.proofs.Laws.Answers.{answers_refusal, answers_done, said_refused, said_wrote}
+use Rattle.views.specs.Calls.{view_outcome}
+use Rattle.views.proofs.Laws.Calls.{view_fits}
+use Rattle.listing.specs.Listing.{file_limit}
+use Rattle.listing.proofs.Laws.Calls.{text_12, text_done, listing_longer, listing_refused, listing_view}
+use Rattle.listing.proofs.text.Goals as goal
+use Rattle.listing.proofs.text.Goals.{After-view, In-Wrote-2}
+
+-- the view was asked for with 65,536 bytes of room
+viewed : (c : After-view)
+    → Answers (view_outcome c.args.list.now 67108864 file_limit) c.blank-view.result c.view.result c.view.new.out
+viewed c = rw c.blank-view.ensures at c.view.ensures
+
+-- what the view wrote
+wrote : (c : In-Wrote-2)
+    → Written (view_outcome c.args.list.now 67108864 file_limit) c.in-Wrote.n c.view.new.out
+wrote c = said_wrote _ _ _ _ (rw c.in-Wrote.is at (viewed (PLACE After-view)))
+
+room : (c : In-Wrote-2) → length (wrote c).bytes ≤ file_limit
+room c = (view_fits _ _ _ _ (wrote c).outcome).1
+
+pub returns-then-out-lt-TEXT : goal.returns-then-out-lt-TEXT
+returns-then-out-lt-TEXT c = answers_refusal _ _ _ _ (text_12 _ _ _ c.if-out-lt-TEXT.true) c.refusal.ensures
+
+pub returns-then-longer : goal.returns-then-longer
+returns-then-longer c =
+    let a = c.args in
+    let e = text_done a.longer a.list.now _ c.if-out-lt-TEXT.false in
+    let l = listing_longer a.longer a.list.now c.if-longer.true in
+    let w = rw c.refusal-then-longer.ensures at c.put_refused.ensures in
+    answers_done _ _ _ _ _ (e ∙ ap done l) (sym w.0) w.1
+
+pub slice_bounds-view-end-in-Wrote : goal.slice_bounds-view-end-in-Wrote
+slice_bounds-view-end-in-Wrote c =
+    omega (arith, (wrote (goal.at.slice_bounds-view-end-in-Wrote c).In-Wrote-2).first.counted, room (goal.at.slice_bounds-view-end-in-Wrote c).In-Wrote-2, c.view.auto.out)
+
+pub slice_bounds-put_view-end : goal.slice_bounds-put_view-end
+slice_bounds-put_view-end c =
+    simp length-take (omega (arith, (wrote (goal.at.slice_bounds-put_view-end c).In-Wrote-2).first.counted, room (goal.at.slice_bounds-put_view-end c).In-Wrote-2, c.view.auto.out))
+
+pub put_view-requires : goal.put_view-requires
+put_view-requires c =
+    record { view_len_bound = simp length-take (omega (arith, (wrote (goal.at.put_view-requires c).In-Wrote-2).first.counted, room (goal.at.put_view-requires c).In-Wrote-2, c.blank-view.ensures)); text_room_in_bounds = omega arith }
+
+pub returns-in-Refused : goal.returns-in-Refused
+unfolding chunk
+returns-in-Refused c =
+    let a = c.args in
+    let o = said_refused _ _ _ _ (rw c.in-Refused.is at (viewed (goal.at.returns-in-Refused c).After-view)) in
+    let e = text_done a.longer a.list.now _ c.if-out-lt-TEXT.false in
+    let l = listing_refused a.longer a.list.now c.if-longer.false _ o in
+    answers_done _ _ _ _ _ (e ∙ ap done l) (sym c.put_refused-in-Refused.ensures.0) c.put_refused-in-Refused.ensures.1
+
+pub returns-in-Wrote : goal.returns-in-Wrote
+unfolding chunk
+returns-in-Wrote c =
+    let a = c.args in
+    let e = text_done a.longer a.list.now _ c.if-out-lt-TEXT.false in
+    let l = listing_view a.longer a.list.now c.if-longer.false (wrote (goal.at.returns-in-Wrote c).In-Wrote-2).bytes (wrote (goal.at.returns-in-Wrote c).In-Wrote-2).outcome in
+    let w = rw (wrote (goal.at.returns-in-Wrote c).In-Wrote-2).first.front at c.put_view.ensures in
+    answers_done _ _ _ _ _ (e ∙ ap done l) (sym w.0) w.1

@@ -1,0 +1,19 @@
+-- `plans::reach::reach` meets its contract. The invariant: from p up to e the locations go on, and e is the end of the segment, or of a block in it.
+-- Assumes nothing.
+use Prim.Native.Nat.{◌+◌, ◌-◌, ◌≤◌, ◌<◌}
+use lib.ListN.{get_or}
+use Rattle.slices.specs.Record.{records}
+use Rattle.runs.specs.Inner.{Unbroken}
+use Rattle.runs.specs.Runs.{Stops}
+use Rattle.plans.specs.Location.{location_at, next_location}
+use Rattle.plans.proofs.reach.reach.Given as goal
+
+abbrev pub invariant-loop-e : goal.invariant-loop-e
+invariant-loop-e l = Unbroken next_location (location_at l.block (records l.list)) l.p l.end l.e
+    × (l.segment < l.m)
+    × (get_or l.marks l.segment 0 ≤ l.e)
+    × (l.e ≤ get_or l.marks (l.segment + 1) 0)
+    × (l.e < get_or l.marks (l.segment + 1) 0 → Stops next_location (location_at l.block (records l.list)) l.e l.end)
+
+abbrev pub decreases-loop-e : goal.decreases-loop-e
+decreases-loop-e l = l.end - l.e

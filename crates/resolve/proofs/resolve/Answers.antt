@@ -1,0 +1,35 @@
+-- `resolve::resolve` meets its contract: the bounds of the records, sorted by their first positions, are swept. Assumes nothing.
+use native.Mathlib.Omega.{arith}
+use native.Mathlib.Nat.{le_refl}
+use Rattle.slices.specs.Passes.{Passes}
+use Rattle.slices.specs.Record.{count}
+use Rattle.slices.proofs.Laws.Record.{records_at}
+use Rattle.resolve.proofs.Laws.Resolved.{resolved}
+use Rattle.resolve.proofs.resolve.Goals as goal
+
+pub bounds-requires : goal.bounds-requires
+unfolding count
+bounds-requires c =
+    record { all = c.requires.all; n_bound = (le_refl _, c.requires.list_in_bounds_2.0, c.requires.list_in_bounds_2.1) }
+
+pub sort-requires : goal.sort-requires
+unfolding count
+sort-requires c =
+    (omega (arith, c.requires.list_in_bounds_2.0, c.bounds.auto.pos), c.requires.list_in_bounds_2.2, c.requires.list_in_bounds_2.3, omega (arith, c.requires.list_bound))
+
+pub sweep-requires : goal.sweep-requires
+unfolding count
+sweep-requires c =
+    let b = c.bounds in
+    let s = c.sort in
+    record { n_in_bounds = (omega (arith, c.requires.list_in_bounds_2.0, b.auto.1.1.0), omega (arith, c.requires.list_in_bounds_2.1, b.auto.1.1.1.0), omega (arith, c.requires.list_in_bounds_2.2, s.auto.1.1.0), c.requires.list_bound, (λ i l. omega (arith, b.ensures.first i l, (records_at Passes c.args.list.now c.requires.all i l).inside))); n_in_bounds_2 = (c.requires.list_in_bounds.0, c.requires.list_in_bounds.1); by_index = (λ i l. omega (arith, b.ensures.end i l, (records_at Passes c.args.list.now c.requires.all i l).inside)); sorted = s.ensures }
+
+pub returns : goal.returns
+unfolding count
+returns c =
+    record {
+      pass = c.requires.all;
+      resolved = resolved _ _ _ c.bounds.ensures _ _ _ _ c.sweep.ensures.swept;
+      in_marks = omega (arith, c.requires.list_in_bounds.0, c.sweep.ensures.upper_bound, c.sweep.auto.marks);
+      in_tops = omega (arith, c.requires.list_in_bounds.1, c.sweep.ensures.upper_bound, c.sweep.auto.tops);
+    }

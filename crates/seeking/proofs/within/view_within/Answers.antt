@@ -1,0 +1,23 @@
+-- `seeking::within::view_within` meets its contract: the view is written into the room that both buffers have. Assumes nothing.
+use mathlib.Core.Path.{sym}
+use lib.Seq.{length-take-le}
+use Rattle.codec.specs.All.{Bytes}
+use Rattle.codec.proofs.Laws.All.{all_bytes}
+use Rattle.seeking.proofs.Laws.Load.{within_refused, within_wrote}
+use Rattle.seeking.proofs.within.view_within.Goals as goal
+use Rattle.seeking.proofs.within.view_within.Goals.{After-shared_slice_known-1}
+
+-- the list's elements are bytes
+bytes : (c : After-shared_slice_known-1) → Bytes c.args.list.now
+bytes c = all_bytes c.args.list.now (λ i. (c.type_inv.list i).fits)
+
+pub slice_bounds-view-end-2 : goal.slice_bounds-view-end-2
+slice_bounds-view-end-2 c = sym (length-take-le _ _ c.room_for-room.ensures.within)
+
+pub returns-in-Wrote : goal.returns-in-Wrote
+returns-in-Wrote c =
+    within_wrote _ (bytes (goal.at.returns-in-Wrote c).After-shared_slice_known-1) _ _ _ _ _ c.room_for-room.ensures _ (rw c.in-Wrote.is at c.view.ensures)
+
+pub returns-in-Refused : goal.returns-in-Refused
+returns-in-Refused c =
+    within_refused _ (bytes (goal.at.returns-in-Refused c).After-shared_slice_known-1) _ _ _ _ _ c.room_for-room.ensures _ (rw c.in-Refused.is at c.view.ensures)

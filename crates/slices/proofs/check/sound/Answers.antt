@@ -1,0 +1,35 @@
+-- `slices::check::sound` meets its contract. The invariant: the records before i are sound. Assumes nothing.
+use Prim.Native.Nat.{◌-◌, zero-le}
+use native.Mathlib.Omega.{arith}
+use mathlib.Core.Path.{sym, ap, ◌∙◌}
+use Rattle.slices.specs.Record.{count}
+use Rattle.slices.specs.Inner.{fault}
+use Rattle.slices.proofs.Laws.Sizes.{one_more, agreed_none}
+use Rattle.slices.proofs.check.sound.Goals as goal
+
+pub loop-i-init : goal.loop-i-init
+loop-i-init c = record { within = zero-le; passed = λ j l. absurd (omega arith); agreed = agreed_none _ }
+
+pub returns-then-check_record-ne0 : goal.returns-then-check_record-ne0
+returns-then-check_record-ne0 c = c.loop-i.invariant
+
+pub agrees-requires : goal.agrees-requires
+unfolding count
+agrees-requires c = c.loop-i-test.true
+
+pub loop-i-preserved : goal.loop-i-preserved
+unfolding count
+loop-i-preserved c =
+    let l = c.loop-i.invariant in
+    let e = c.check_record.ensures ∙ ap fault c.read_record.ensures in
+    record {
+      within = omega (arith, c.loop-i-test.true);
+      passed = one_more _ _ l.passed (sym e ∙ c.if-check_record-ne0.false);
+      agreed = c.agrees.ensures c.if-agrees.true l.agreed;
+    }
+
+pub returns-else-agrees : goal.returns-else-agrees
+returns-else-agrees c = c.loop-i.invariant
+
+pub returns : goal.returns
+returns c = c.loop-i.invariant

@@ -1,0 +1,36 @@
+-- `slices::sizes::agrees` meets its contract. Assumes nothing.
+use native.Mathlib.Omega.{arith}
+use native.Mathlib.Decide.{dec_lt}
+use mathlib.Core.Path.{sym, ◌∙◌}
+use mathlib.Core.Bool.{false≢true}
+use Rattle.slices.specs.Record.{count}
+use Rattle.slices.proofs.Laws.Sizes.{agreed_zeros, agreed_new, agreed_first}
+use Rattle.slices.proofs.sizes.agrees.Goals as goal
+
+pub read_id-id-requires : goal.read_id-id-requires
+unfolding count
+read_id-id-requires c = omega arith
+
+pub returns-then-id-eq0 : goal.returns-then-id-eq0
+returns-then-id-eq0 c z a = agreed_zeros _ _ a (sym c.read_id-id.ensures ∙ c.if-id-eq0.true)
+
+pub read_size-requires : goal.read_size-requires
+unfolding count
+read_size-requires c = omega (arith, c.first_with-first.ensures.within)
+
+pub read_size-requires-2 : goal.read_size-requires-2
+unfolding count
+read_size-requires-2 c = omega arith
+
+pub returns-then-read_size : goal.returns-then-read_size
+returns-then-read_size c z a =
+    let id = c.read_id-id.ensures in
+    let first = c.first_with-first.ensures in
+    elim (dec_lt c.first_with-first.result c.args.i) [
+      | yes l ↦
+          agreed_first _ _ a _ l (first.has l ∙ id) (λ k h e. first.none k h (e ∙ sym id)) (sym c.read_size.ensures ∙ c.if-read_size.true ∙ c.read_size-2.ensures)
+      | no l ↦ agreed_new _ _ a (λ k h e. first.none k (omega arith) (e ∙ sym id))
+    ]
+
+pub returns : goal.returns
+returns c z = absurd (false≢true z)

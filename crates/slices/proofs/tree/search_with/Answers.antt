@@ -1,0 +1,39 @@
+-- `slices::tree::search_with` meets its contract. The invariant: the tree has the first i records, and what is said of the list is said of its
+-- records from i on. Assumes nothing.
+use Prim.Native.Nat.{◌-◌}
+use mathlib.Core.Path.{refl, ap, ◌∙◌}
+use mathlib.Core.Bool.{not}
+use Rattle.slices.specs.Record.{count}
+use Rattle.slices.proofs.Laws.Sizes.{sizes_start, sizes_next, sizes_end, other_here, no_other}
+use Rattle.slices.proofs.tree.search_with.Goals as goal
+
+pub loop-i-init : goal.loop-i-init
+loop-i-init c = (refl, c.requires, sizes_start _)
+
+pub enter-requires : goal.enter-requires
+unfolding count
+enter-requires c = record { i_bound = c.loop-i-test.true; room = c.loop-i.invariant.1 }
+
+pub loop-i-preserved : goal.loop-i-preserved
+unfolding count
+loop-i-preserved c =
+    let e = c.enter.ensures in (
+      c.enter.auto.table ∙ c.loop-i.invariant.0,
+      e.tree c.if-enter.true,
+      c.loop-i.invariant.2 ∙ sizes_next _ _ c.loop-i-test.true (e.says ∙ ap not c.if-enter.true),
+    )
+
+pub shape_of-table-else-enter : goal.shape_of-table-else-enter
+shape_of-table-else-enter c = c.enter.auto.table ∙ c.loop-i.invariant.0
+
+pub returns-else-enter : goal.returns-else-enter
+unfolding count
+returns-else-enter c =
+    other_here _ _ c.loop-i-test.true c.loop-i.invariant.2 (c.enter.ensures.says ∙ ap not c.if-enter.false)
+
+pub shape_of-table : goal.shape_of-table
+shape_of-table c = c.loop-i.invariant.0
+
+pub returns : goal.returns
+unfolding count
+returns c = no_other _ (c.loop-i.invariant.2 ∙ sizes_end _ _ c.loop-i-test.false)

@@ -1,0 +1,17 @@
+-- `stepping::rooms::end_in` meets its contract: the segment that holds p leads to the end of its piece. Assumes nothing.
+use native.Mathlib.Omega.{arith}
+use Rattle.slices.specs.Limits.{chunk}
+use Rattle.resolve.proofs.Laws.Resolved.{resolved_at, resolved_few}
+use Rattle.stepping.proofs.rooms.end_in.Goals as goal
+
+pub resolve-m-requires : goal.resolve-m-requires
+resolve-m-requires c =
+    record { all = c.requires.resolvable.0.pass; list_bound = c.requires.resolvable.0.few; list_in_bounds = (c.requires.resolvable.1.marks-fit, c.requires.resolvable.1.tops_fit); list_in_bounds_2 = (c.requires.resolvable.1.pos-fit, c.requires.resolvable.1.ends-fit, c.requires.resolvable.1.order-fit, c.requires.resolvable.1.spare-fit) }
+
+pub offset_bounds-tops-k : goal.offset_bounds-tops-k
+unfolding chunk
+offset_bounds-tops-k c = omega (arith, c.find-k.ensures.inside, resolved_few _ _ _ _ _ c.resolve-m.ensures.resolved)
+
+pub returns : goal.returns
+returns c =
+    record { on_top = resolved_at _ _ _ _ _ c.resolve-m.ensures.resolved _ _ c.find-k.ensures; leads = c.run_to-e.ensures }
