@@ -14,7 +14,7 @@ use Rattle.outcomes.proofs.Laws.Answers.{replies_refused}
 use Rattle.compaction.proofs.Laws.NewList.{stand_most}
 use Rattle.compaction.proofs.Laws.Delivery.{firsts_pass, firsts_few, first_short_list, first_refused, first_done}
 use Rattle.compaction.proofs.compact_first.Goals as goal
-use Rattle.compaction.proofs.compact_first.Goals.{After-shared_slice_known-1, Start}
+use Rattle.compaction.proofs.compact_first.Goals.{After-shared_slice_known-1}
 
 -- the list's elements are bytes
 bytes : (c : After-shared_slice_known-1) → Bytes c.args.list.now
@@ -29,7 +29,7 @@ unfolding count
 slice_bounds-firsts-end c = sym (length-take-le (c.args.k * record_size) c.args.list.now (omega (arith, c.requires.k_bound)))
 
 pub span-span-requires : goal.span-span-requires
-span-span-requires c = passing (goal.at.span-span-requires c).Start
+span-span-requires c = passing (goal.at.span-span-requires c).After-shared_slice_known-1
 
 pub overflow_sub-list_bytes : goal.overflow_sub-list_bytes
 unfolding count
@@ -38,18 +38,18 @@ overflow_sub-list_bytes c = omega (arith, c.requires.k_bound)
 pub overflow_add-list_bytes : goal.overflow_add-list_bytes
 unfolding count
 overflow_add-list_bytes c =
-    omega (arith, c.requires.accepts.few, c.stand_in_bytes.ensures, stand_most c.span-span.result.from c.span-span.result.end c.args.new-id)
+    omega (arith, c.requires.accepts.few, c.stand_in_bytes.ensures, stand_most c.span-span.result.from c.span-span.result.end c.args.new_id)
 
 pub returns-then-new_list-list_bytes : goal.returns-then-new_list-list_bytes
 returns-then-new_list-list_bytes c =
     replies_refused _ _ _ _
-    (first_short_list _ (bytes (goal.at.returns-then-new_list-list_bytes c).Start) c.requires.accepts.whole _ c.requires.k_bound _ _ c.span-span.ensures _ _ c.args.new-id _ c.stand_in_bytes.ensures c.args.plan.now c.args.new-list.now c.if-new_list-list_bytes.true)
+    (first_short_list _ (bytes (goal.at.returns-then-new_list-list_bytes c).After-shared_slice_known-1) c.requires.accepts.whole _ c.requires.k_bound _ _ c.span-span.ensures _ _ c.args.new_id _ c.stand_in_bytes.ensures c.args.plan.now c.args.new_list.now c.if-new_list-list_bytes.true)
     c.refusal.ensures (refl, (refl, tt))
 
 pub planned-requires : goal.planned-requires
 planned-requires c =
     let e = c.span-span.ensures in
-    record { all = passing (goal.at.planned-requires c).Start; list_bound = (firsts_few c.args.list.now (c.args.k * record_size) c.requires.accepts.few, e.order, e.inside); block_value = c.requires.block_value }
+    record { all = passing (goal.at.planned-requires c).After-shared_slice_known-1; list_bound = (firsts_few c.args.list.now (c.args.k * record_size) c.requires.accepts.few, e.order, e.inside); block_value = c.requires.block_value }
 
 pub write_list-requires : goal.write_list-requires
 unfolding count
@@ -58,8 +58,8 @@ write_list-requires c =
 
 pub returns-in-Refused : goal.returns-in-Refused
 returns-in-Refused c =
-    first_refused _ (bytes (goal.at.returns-in-Refused c).Start) c.requires.accepts.whole _ c.requires.k_bound _ _ c.span-span.ensures _ _ c.args.new-id _ c.stand_in_bytes.ensures _ _ c.if-new_list-list_bytes.false _ _ c.planned.ensures _ c.in-Refused.is
+    first_refused _ (bytes (goal.at.returns-in-Refused c).After-shared_slice_known-1) c.requires.accepts.whole _ c.requires.k_bound _ _ c.span-span.ensures _ _ c.args.new_id _ c.stand_in_bytes.ensures _ _ c.if-new_list-list_bytes.false _ _ c.planned.ensures _ c.in-Refused.is
 
 pub returns-in-Wrote : goal.returns-in-Wrote
 returns-in-Wrote c =
-    first_done _ (bytes (goal.at.returns-in-Wrote c).Start) c.requires.accepts.whole _ c.requires.k_bound _ _ c.span-span.ensures _ _ c.args.new-id _ c.stand_in_bytes.ensures _ _ c.if-new_list-list_bytes.false _ _ c.planned.ensures _ c.in-Wrote.is _ c.write_list.ensures
+    first_done _ (bytes (goal.at.returns-in-Wrote c).After-shared_slice_known-1) c.requires.accepts.whole _ c.requires.k_bound _ _ c.span-span.ensures _ _ c.args.new_id _ c.stand_in_bytes.ensures _ _ c.if-new_list-list_bytes.false _ _ c.planned.ensures _ c.in-Wrote.is _ c.write_list.ensures

@@ -55,7 +55,7 @@ site_run f at r v =
     record {
       starts = v.starts;
       some = v.some;
-      first_is = ap (λ (s : Site). s.location) v.first-is;
+      first_is = ap (λ (s : Site). s.location) v.first_is;
       inside = λ p a b. (and_both (eqb (f p).index (f (suc p)).index) (next_location (f p).location (f (suc p)).location) (v.inside p a b)).1;
     }
 

@@ -30,7 +30,7 @@ module _ (first B : ℕ) (ls : List (List Record)) (start : ℕ) where
   unfolding site_from site_at
   run_inside at r v =
       let l : at + (r.len - 1) ≡ r.start + r.len - 1 = omega (arith, v.some, v.starts) in
-      let i = ap (λ (s : Site). s.index) v.first-is in
+      let i = ap (λ (s : Site). s.index) v.first_is in
       record {
         from = rw v.starts i;
         to = i ∙ sym (rw l at (one_index (site_from first B ls start) at r v (r.len - 1) (omega (arith, v.some))));

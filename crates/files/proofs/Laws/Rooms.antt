@@ -18,12 +18,12 @@ pub room_kept : {n : ℕ} {marks tops pos ends order spare : List ℕ} → Room 
     → length spare' ≡ length spare → Room n marks' tops' pos' ends' order' spare'
 room_kept r a b c d e f =
     record {
-      marks_fit = omega (arith, r.marks-fit);
+      marks_fit = omega (arith, r.marks_fit);
       tops_fit = omega (arith, r.tops_fit);
-      pos_fit = omega (arith, r.pos-fit);
-      ends_fit = omega (arith, r.ends-fit);
-      order_fit = omega (arith, r.order-fit);
-      spare_fit = omega (arith, r.spare-fit);
+      pos_fit = omega (arith, r.pos_fit);
+      ends_fit = omega (arith, r.ends_fit);
+      order_fit = omega (arith, r.order_fit);
+      spare_fit = omega (arith, r.spare_fit);
     }
 
 module _ (n : ℕ) (marks tops pos ends order spare : List ℕ) (r : Room n marks tops pos ends order spare) where
@@ -31,12 +31,12 @@ module _ (n : ℕ) (marks tops pos ends order spare : List ℕ) (r : Room n mark
   room_fewer : (m : ℕ) → m ≤ n → Room m marks tops pos ends order spare
   room_fewer m h =
       record {
-        marks_fit = omega (arith, r.marks-fit);
+        marks_fit = omega (arith, r.marks_fit);
         tops_fit = omega (arith, r.tops_fit);
-        pos_fit = omega (arith, r.pos-fit);
-        ends_fit = omega (arith, r.ends-fit);
-        order_fit = omega (arith, r.order-fit);
-        spare_fit = omega (arith, r.spare-fit);
+        pos_fit = omega (arith, r.pos_fit);
+        ends_fit = omega (arith, r.ends_fit);
+        order_fit = omega (arith, r.order_fit);
+        spare_fit = omega (arith, r.spare_fit);
       }
 
   -- lists of as many records together

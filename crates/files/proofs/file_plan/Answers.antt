@@ -18,7 +18,7 @@ use Rattle.files.proofs.file_plan.Goals as goal
 use Rattle.files.proofs.file_plan.Goals.{Else-wrong_chunks, In-Accepted-2, Then-block_allowed}
 
 -- the chunks are not wrong
-right : (c : Else-wrong_chunks) → let a = c.args in Right a.lengths.now (length a.lists.now) a.first-index
+right : (c : Else-wrong_chunks) → let a = c.args in Right a.lengths.now (length a.lists.now) a.first_index
 right c = right_chunks _ _ _ (sym c.wrong_chunks.ensures ∙ c.if-wrong_chunks.false)
 
 -- the block size is allowed
@@ -26,7 +26,7 @@ allowed : (c : Then-block_allowed) → block_allowed c.args.block_size ≡ true
 allowed c = sym c.block_allowed.ensures ∙ c.if-block_allowed.true
 
 -- all lists are accepted
-told : (c : In-Accepted-2) → let a = c.args in checked_lists (lists_outcome a.first-index (parts a.lengths.now a.lists.now)) ≡ Accepted c.in-Accepted.n
+told : (c : In-Accepted-2) → let a = c.args in checked_lists (lists_outcome a.first_index (parts a.lengths.now a.lists.now)) ≡ Accepted c.in-Accepted.n
 told c = sym c.check_lists.ensures ∙ c.in-Accepted.is
 
 pub returns-then-wrong_chunks : goal.returns-then-wrong_chunks

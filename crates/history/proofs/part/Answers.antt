@@ -27,4 +27,4 @@ pub returns-in-Yes : goal.returns-in-Yes
 returns-in-Yes c = sym (part_yes _ _ (sym c.requires ∙ c.in-Yes.is))
 
 pub returns-in-Refused : goal.returns-in-Refused
-returns-in-Refused c = sym (part_refused _ _ _ (sym c.requires ∙ c.enum_told-in-Refused-1.given.1))
+returns-in-Refused c = sym (part_refused _ _ _ (sym c.requires ∙ c.in-Refused.is))

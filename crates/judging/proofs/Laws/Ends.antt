@@ -51,4 +51,4 @@ module _ (f : ℕ → Site) where
 
 pub rest_named : (f : ℕ → Site) (n : ℕ) (plan : List ℕ) (k : ℕ) → k * piece_size < length plan → length plan < k * piece_size + piece_size
     → ((j : ℕ) → j < k → WrongInItself f n plan j → ⊥) → verdict f n plan ≡ piece k
-rest_named f n plan k h l before = ((rejected_exactly f n plan).names-piece k).1 (record { wrong = cut_short h l; before = before })
+rest_named f n plan k h l before = ((rejected_exactly f n plan).names_piece k).1 (record { wrong = cut_short h l; before = before })

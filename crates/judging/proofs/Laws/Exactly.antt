@@ -75,7 +75,7 @@ module _ (f : ℕ → Site) (n : ℕ) (plan : List ℕ) where
 
   byte_said : (i : ℕ) → FirstByte f n plan i → verdict f n plan ≡ byte i
   byte_said i b =
-      let e = held.first-is rs n i (omega (arith, b.inside)) b.before (λ l. b.not-once) in
+      let e = held.first_is rs n i (omega (arith, b.inside)) b.before (λ l. b.not_once_lem) in
       byte_decides b.right ∙ rw (e, lt-ltb i n b.inside)
 
   accepted_said : Acceptable f n plan → verdict f n plan ≡ accepted

@@ -45,7 +45,7 @@ module _ (f : ℕ → Site) (n : ℕ) (plan : List ℕ) where
 
     pub piece_named : w * piece_size < length plan → judged.WrongPiece w ≡ said (verdict f n plan)
     unfolding said
-    piece_named h = sym (ap said (((rejected_exactly f n plan).names-piece w).1 (record { wrong = go (dec_lt w (length plan / piece_size)); before = before_right })))
+    piece_named h = sym (ap said (((rejected_exactly f n plan).names_piece w).1 (record { wrong = go (dec_lt w (length plan / piece_size)); before = before_right })))
       where
         go : Dec (w < length plan / piece_size) → WrongInItself f n plan w
         go (yes k) = whole (omega arith) ((wrong_piece_exactly f n (piece_at plan w)).0 (l.wrong k))
@@ -76,7 +76,7 @@ module _ (f : ℕ → Site) (n : ℕ) (plan : List ℕ) where
           go : Dec (at < n) → said_of at n ≡ said (verdict f n plan)
           go (yes k) =
               rw (lt-ltb at n k)
-              (sym (ap said (((rejected_exactly f n plan).names-byte at).1 (record { right = none_wrong; inside = k; not_once_lem = rw e (first_other (pieces_in plan) n (omega arith)); before = before }))))
+              (sym (ap said (((rejected_exactly f n plan).names_byte at).1 (record { right = none_wrong; inside = k; not_once_lem = rw e (first_other (pieces_in plan) n (omega arith)); before = before }))))
           go (no k) = rw (le-ltb at n (omega arith)) (accepted_once (λ i m. before i (omega arith)))
 
 -- ---- a read without a byte

@@ -41,7 +41,7 @@ module _ (f : ℕ → Site) (n : ℕ) where
       let u : Unbroken next_site f at n (at + r.len) = record { some = omega (arith, v.some); inside = l; joins = v.inside } in
       record {
         inside = record { some = v.some; within = omega arith };
-        sites = λ j h. rw (s, v.first-is) (sym (value_at next_site onward_site site_zero next_site_is f at n (at + r.len) u j (omega arith)));
+        sites = λ j h. rw (s, v.first_is) (sym (value_at next_site onward_site site_zero next_site_is f at n (at + r.len) u j (omega arith)));
       }
 
   pub runs_right : (at : ℕ) (rs : List (Run Site)) → Valid next_site f at n rs → All (Right f n) rs

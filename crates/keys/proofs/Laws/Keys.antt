@@ -96,7 +96,7 @@ redis_key_distinct = inverse.distinct redis_key_lem
 -- reading gives 13 exactly where no chunk has that key
 pub redis_key_refused_exactly : (t : List ℕ)
     → (read_redis t ≡ refused (refusal not_of_form 0)) ↔ ((c : Chunk) → chunk_allowed c.inode c.index ≡ true → t ≡ redis_key c.inode c.index → ⊥)
-redis_key_refused_exactly t = inverse.refused-exactly redis_key_lem t tt
+redis_key_refused_exactly t = inverse.refused_exactly redis_key_lem t tt
 
 -- writing gives 13 exactly where the numbers are not allowed, else 12 exactly where the buffer is too short
 pub write_redis_refused_exactly : (inode index : ℕ) → WriterRefuses (write_redis inode index) (chunk_allowed inode index) (redis_key inode index)

@@ -147,7 +147,7 @@ tkv_key_distinct = inverse.distinct tkv_key_lem
 -- reading gives 13 exactly where no chunk has that key
 pub tkv_key_refused_exactly : (t : List ℕ) → Bytes t
     → (read_tkv t ≡ refused (refusal not_of_form 0)) ↔ ((c : Chunk) → chunk_allowed c.inode c.index ≡ true → t ≡ tkv_key c.inode c.index → ⊥)
-tkv_key_refused_exactly = inverse.refused-exactly tkv_key_lem
+tkv_key_refused_exactly = inverse.refused_exactly tkv_key_lem
 
 -- writing gives 13 exactly where the numbers are not allowed, else 12 exactly where the buffer is too short
 pub write_tkv_refused_exactly : (inode index : ℕ) → WriterRefuses (write_tkv inode index) (chunk_allowed inode index) (tkv_key inode index)

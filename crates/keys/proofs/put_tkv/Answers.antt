@@ -29,7 +29,7 @@ unfolding tkv_key
 made c =
     let a = c.args in
     splices_4 a.line.now 0 (65 ∷ []) (little_endian 8 a.inode) (67 ∷ []) (big_endian 4 a.index) 1 9 10 refl (ap (λ (n : ℕ). 1 + n) (length-little_endian 8 a.inode)) refl (omega arith)
-    (splice_one _ _ _ (omega arith)) c.write_le64.ensures (splice_one _ _ _ (bounds-line-9 (PLACE After-slice_known-2-1))) c.write_be32.ensures
+    (splice_one _ _ _ (omega arith)) c.write_le64.ensures (splice_one _ _ _ (omega (arith, simp length-set at c.write_le64.auto.out))) c.write_be32.ensures
 
 pub shape_of-line : goal.shape_of-line
 shape_of-line c =

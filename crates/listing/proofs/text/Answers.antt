@@ -12,7 +12,7 @@ use Rattle.views.proofs.Laws.Calls.{view_fits}
 use Rattle.listing.specs.Listing.{file_limit}
 use Rattle.listing.proofs.Laws.Calls.{text_12, text_done, listing_longer, listing_refused, listing_view}
 use Rattle.listing.proofs.text.Goals as goal
-use Rattle.listing.proofs.text.Goals.{After-view, In-Wrote-2}
+use Rattle.listing.proofs.text.Goals.{After-view, In-Wrote}
 
 -- the view was asked for with 65,536 bytes of room
 viewed : (c : After-view)
@@ -20,11 +20,13 @@ viewed : (c : After-view)
 viewed c = rw c.blank-view.ensures at c.view.ensures
 
 -- what the view wrote
-wrote : (c : In-Wrote-2)
+wrote : (c : In-Wrote)
     → Written (view_outcome c.args.list.now 67108864 file_limit) c.in-Wrote.n c.view.new.out
-wrote c = said_wrote _ _ _ _ (rw c.in-Wrote.is at (viewed (PLACE After-view)))
+wrote c =
+    let v : Answers (view_outcome c.args.list.now 67108864 file_limit) c.blank-view.result c.view.result c.view.new.out = rw c.blank-view.ensures at c.view.ensures in
+    said_wrote _ _ _ _ (rw c.in-Wrote.is at v)
 
-room : (c : In-Wrote-2) → length (wrote c).bytes ≤ file_limit
+room : (c : In-Wrote) → length (wrote c).bytes ≤ file_limit
 room c = (view_fits _ _ _ _ (wrote c).outcome).1
 
 pub returns-then-out-lt-TEXT : goal.returns-then-out-lt-TEXT
@@ -40,15 +42,15 @@ returns-then-longer c =
 
 pub slice_bounds-view-end-in-Wrote : goal.slice_bounds-view-end-in-Wrote
 slice_bounds-view-end-in-Wrote c =
-    omega (arith, (wrote (goal.at.slice_bounds-view-end-in-Wrote c).In-Wrote-2).first.counted, room (goal.at.slice_bounds-view-end-in-Wrote c).In-Wrote-2, c.view.auto.out)
+    omega (arith, (wrote (goal.at.slice_bounds-view-end-in-Wrote c).In-Wrote).first.counted, room (goal.at.slice_bounds-view-end-in-Wrote c).In-Wrote, c.view.auto.out)
 
 pub slice_bounds-put_view-end : goal.slice_bounds-put_view-end
 slice_bounds-put_view-end c =
-    simp length-take (omega (arith, (wrote (goal.at.slice_bounds-put_view-end c).In-Wrote-2).first.counted, room (goal.at.slice_bounds-put_view-end c).In-Wrote-2, c.view.auto.out))
+    simp length-take (omega (arith, (wrote (goal.at.slice_bounds-put_view-end c).In-Wrote).first.counted, room (goal.at.slice_bounds-put_view-end c).In-Wrote, c.view.auto.out))
 
 pub put_view-requires : goal.put_view-requires
 put_view-requires c =
-    record { view_len_bound = simp length-take (omega (arith, (wrote (goal.at.put_view-requires c).In-Wrote-2).first.counted, room (goal.at.put_view-requires c).In-Wrote-2, c.blank-view.ensures)); text_room_in_bounds = omega arith }
+    record { view_len_bound = simp length-take (omega (arith, (wrote (goal.at.put_view-requires c).In-Wrote).first.counted, room (goal.at.put_view-requires c).In-Wrote, c.blank-view.ensures)); text_room_in_bounds = omega arith }
 
 pub returns-in-Refused : goal.returns-in-Refused
 unfolding chunk
@@ -64,6 +66,6 @@ unfolding chunk
 returns-in-Wrote c =
     let a = c.args in
     let e = text_done a.longer a.list.now _ c.if-out-lt-TEXT.false in
-    let l = listing_view a.longer a.list.now c.if-longer.false (wrote (goal.at.returns-in-Wrote c).In-Wrote-2).bytes (wrote (goal.at.returns-in-Wrote c).In-Wrote-2).outcome in
-    let w = rw (wrote (goal.at.returns-in-Wrote c).In-Wrote-2).first.front at c.put_view.ensures in
+    let l = listing_view a.longer a.list.now c.if-longer.false (wrote (goal.at.returns-in-Wrote c).In-Wrote).bytes (wrote (goal.at.returns-in-Wrote c).In-Wrote).outcome in
+    let w = rw (wrote (goal.at.returns-in-Wrote c).In-Wrote).first.front at c.put_view.ensures in
     answers_done _ _ _ _ _ (e ∙ ap done l) (sym w.0) w.1

@@ -120,7 +120,7 @@ full_name_distinct = inverse.distinct full_name_lem
 
 -- reading gives 13 exactly where no object in a volume has that name
 pub full_name_refused_exactly : (t : List ℕ) → (read_full t ≡ refused (refusal not_of_form 0)) ↔ ((f : Full) → allowed f ≡ true → t ≡ text f → ⊥)
-full_name_refused_exactly t = inverse.refused-exactly full_name_lem t tt
+full_name_refused_exactly t = inverse.refused_exactly full_name_lem t tt
 
 -- writing gives 13 exactly where the volume name or the numbers are not allowed, else 12 exactly where the buffer is too short
 pub write_full_refused_exactly : (volume : List ℕ) (id block len : ℕ) → WriterRefuses (write_full volume id block len) (full_allowed volume id block len) (full_name volume id block len)

@@ -34,7 +34,7 @@ module _ (id block size : ℕ) where
   name_length_lem {i} {b} {s} w =
       let m = millionth_width id in
       let t = thousandth_width id in
-      rw (w.of-id, w.of-block, w.of_size, ← m, ← t) (parts-length ∙ ap (λ (n : ℕ). 7 + (n + (1 + (length (decimal block) + (1 + length (decimal size)))))) (slice_length id) ∙ sum _ _ _ _ _)
+      rw (w.of_id, w.of_block, w.of_size, ← m, ← t) (parts-length ∙ ap (λ (n : ℕ). 7 + (n + (1 + (length (decimal block) + (1 + length (decimal size)))))) (slice_length id) ∙ sum _ _ _ _ _)
 
   pub full-length : (volume : List ℕ) → length (full_name volume id block size) ≡ length volume + (1 + length (object_name id block size))
   unfolding full_name

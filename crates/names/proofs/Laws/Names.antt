@@ -101,7 +101,7 @@ name_distinct = inverse.distinct object_name_lem
 -- reading gives 13 exactly where no object has that name
 pub object_name_refused_exactly : (t : List ℕ) → (read_object t ≡ refused (refusal not_of_form 0))
     ↔ ((o : Object) → object_allowed o.id o.block o.length ≡ true → t ≡ object_name o.id o.block o.length → ⊥)
-object_name_refused_exactly t = inverse.refused-exactly object_name_lem t tt
+object_name_refused_exactly t = inverse.refused_exactly object_name_lem t tt
 
 -- writing gives 13 exactly where the numbers are not allowed, else 12 exactly where the buffer is too short
 pub write_object_refused_exactly : (id block len : ℕ) → WriterRefuses (write_object id block len) (object_allowed id block len) (object_name id block len)

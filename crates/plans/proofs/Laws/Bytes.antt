@@ -42,7 +42,7 @@ run_location : (f : ℕ → Location) (at end : ℕ) (r : Run Location) → IsRu
 run_location f at end r v h p l m =
     let e : at + (p - at) ≡ p = omega arith in
     let x = value_at next_location onward onward-zero next_location_is f at end (at + r.len) (record { some = omega (arith, v.some); inside = h; joins = v.inside }) (p - at) (omega arith) in
-    rw v.first-is (rw e at x)
+    rw v.first_is (rw e at x)
 
 -- ---- a plan
 

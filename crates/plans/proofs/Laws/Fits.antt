@@ -69,7 +69,7 @@ unfolding in_chunk
 runs_fit index before g f has at end l [] v = tt
 runs_fit index before g f has at end l (r ∷ xs) v =
     let e = valid_le next_location f (at + r.len) end xs v.2 in (
-      piece_fits index (before + r.start) r.len r.first g (omega (arith, v.0.starts)) (omega arith) (rw v.0.first-is (has at)),
+      piece_fits index (before + r.start) r.len r.first g (omega (arith, v.0.starts)) (omega arith) (rw v.0.first_is (has at)),
       runs_fit index before g f has (at + r.len) end l xs v.2,
     )
 

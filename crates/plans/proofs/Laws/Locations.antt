@@ -12,7 +12,6 @@ use borrow.Author.Tests.{eqb-true, eq-eqb}
 use Rattle.codec.specs.All.{All}
 use Rattle.slices.specs.Cover.{cover}
 use Rattle.slices.specs.Passes.{Passes}
-use Rattle.slices.proofs.Laws.Tags.{OneOf}
 use Rattle.blocks.specs.Blocks.{block_length}
 use Rattle.views.specs.View.{next}
 use Rattle.views.specs.Inner.{shift}
@@ -41,12 +40,11 @@ sizes_share B i s t o h k =
 
 -- ---- what has no object
 
-pub location_hole : (B : ℕ) (s : Source) → OneOf 0 1 s → location B s ≡ Hole
+pub location_hole : (B : ℕ) (s : Source) → ((i z o : ℕ) → s ≡ Byte i z o → ⊥) → location B s ≡ Hole
 unfolding location
 location_hole B Nothing h = refl
 location_hole B Zero h = refl
-location_hole B (Byte i z o) (inl e) = absurd (omega arith)
-location_hole B (Byte i z o) (inr e) = absurd (omega arith)
+location_hole B (Byte i z o) h = absurd (h i z o refl)
 
 -- the same where its id says so
 pub id_hole : (B : ℕ) (s : Source) → Real s → id_of s ≡ 0 → location B s ≡ Hole

@@ -118,7 +118,7 @@ pub top_within : (bs : List ℕ) (top a b : ℕ) → OnTop bs top a b → (c d :
 top_within bs top a b t c d l m =
     record {
       covering = λ i e. ((t.covering i e).0, omega (arith, (t.covering i e).1), omega (arith, (t.covering i e).2));
-      cover_is = λ q x y. t.cover-is q (omega arith) (omega arith);
+      cover_is = λ q x y. t.cover_is q (omega arith) (omega arith);
     }
 
 module _ (bs : List ℕ) (top p e : ℕ) (t : OnTop bs top p e) where

@@ -103,7 +103,7 @@ module _ (bs pos ends : List ℕ) (b : Bounds bs pos ends (count bs)) where
   resolved marks tops m end s =
       record {
         starts = s.starts;
-        ends = s.at-end;
+        ends = s.at_end;
         rises = s.rises;
         on_top = λ k l. on_top _ _ _ (s.segments k l);
       }
@@ -112,10 +112,10 @@ module _ (bs pos ends : List ℕ) (b : Bounds bs pos ends (count bs)) where
 
 pub resolved_at : (bs marks tops : List ℕ) (m end : ℕ) → Resolved bs marks tops m end → (k p : ℕ) → Holds marks m k p → OnTop bs (get_or tops k 0) p (p + 1)
 resolved_at bs marks tops m end r k p h =
-    let t = r.on-top k h.inside in
+    let t = r.on_top k h.inside in
     record {
       covering = λ i e. ((t.covering i e).0, omega (arith, (t.covering i e).1, h.from), omega (arith, (t.covering i e).2, h.to));
-      cover_is = λ q a b. t.cover-is q (omega (arith, h.from)) (omega (arith, h.to));
+      cover_is = λ q a b. t.cover_is q (omega (arith, h.from)) (omega (arith, h.to));
     }
 
 -- the first segment holds the first position
@@ -166,8 +166,8 @@ module _ (bs marks tops : List ℕ) (m end : ℕ) (r : Resolved bs marks tops m 
 
 pub source_zero : (bs : List ℕ) (top p : ℕ) → OnTop bs top p (p + 1) → top ≡ 0 → cover (records bs) p ≡ Nothing
 unfolding source_of
-source_zero bs top p t e = t.cover-is p (omega arith) (omega arith) ∙ rw e
+source_zero bs top p t e = t.cover_is p (omega arith) (omega arith) ∙ rw e
 
 pub source_some : (bs : List ℕ) (top p i : ℕ) → OnTop bs top p (p + 1) → top ≡ suc i → cover (records bs) p ≡ given (record_at bs i) p
 unfolding source_of
-source_some bs top p i t e = t.cover-is p (omega arith) (omega arith) ∙ rw e
+source_some bs top p i t e = t.cover_is p (omega arith) (omega arith) ∙ rw e

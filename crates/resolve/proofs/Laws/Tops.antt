@@ -36,7 +36,7 @@ id_source bs zero p = refl
 id_source bs (suc i) p = id_given (record_at bs i) p (ℕ_discrete (record_at bs i).id 0)
 
 pub id_cover : (bs : List ℕ) (top p : ℕ) → OnTop bs top p (p + 1) → id_of (cover (records bs) p) ≡ id_on bs top
-id_cover bs top p t = ap id_of (t.cover-is p (omega arith) (omega arith)) ∙ id_source bs top p
+id_cover bs top p t = ap id_of (t.cover_is p (omega arith) (omega arith)) ∙ id_source bs top p
 
 -- ---- the size, and the slice offset
 

@@ -22,7 +22,7 @@ unfolding count
 sweep-requires c =
     let b = c.bounds in
     let s = c.sort in
-    record { n_in_bounds = (omega (arith, c.requires.list_in_bounds_2.0, b.auto.1.1.0), omega (arith, c.requires.list_in_bounds_2.1, b.auto.1.1.1.0), omega (arith, c.requires.list_in_bounds_2.2, s.auto.1.1.0), c.requires.list_bound, (λ i l. omega (arith, b.ensures.first i l, (records_at Passes c.args.list.now c.requires.all i l).inside))); n_in_bounds_2 = (c.requires.list_in_bounds.0, c.requires.list_in_bounds.1); by_index = (λ i l. omega (arith, b.ensures.end i l, (records_at Passes c.args.list.now c.requires.all i l).inside)); sorted = s.ensures }
+    record { n_in_bounds = (omega (arith, c.requires.list_in_bounds_2.0, b.auto.pos), omega (arith, c.requires.list_in_bounds_2.1, b.auto.ends), omega (arith, c.requires.list_in_bounds_2.2, s.auto.order), c.requires.list_bound, (λ i l. omega (arith, b.ensures.first i l, (records_at Passes c.args.list.now c.requires.all i l).inside))); n_in_bounds_2 = (c.requires.list_in_bounds.0, c.requires.list_in_bounds.1); by_index = (λ i l. omega (arith, b.ensures.end i l, (records_at Passes c.args.list.now c.requires.all i l).inside)); sorted = s.ensures }
 
 pub returns : goal.returns
 unfolding count

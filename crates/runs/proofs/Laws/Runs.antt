@@ -71,14 +71,14 @@ module _ {A : Type 0} (next : A → A → Bool) where
           starts = refl;
           some = omega arith;
           first_is = refl;
-          inside = λ p a b. ⊎_elim (λ q. rw (← q, ← v.0.first-is) e) (λ l. v.0.inside p l (omega arith)) (eq-or-lt_of_le a);
+          inside = λ p a b. ⊎_elim (λ q. rw (← q, ← v.0.first_is) e) (λ l. v.0.inside p l (omega arith)) (eq-or-lt_of_le a);
         },
         (λ p a b. v.1 p (omega arith) (omega arith)),
         rw (add-suc, ← suc-add) v.2,
       )
       go false e = (
         record { starts = refl; some = omega arith; first_is = refl; inside = λ p a b. absurd (omega arith) },
-        (λ p a b. let q : p ≡ at = omega arith in rw (q, ← v.0.first-is) e),
+        (λ p a b. let q : p ≡ at = omega arith in rw (q, ← v.0.first_is) e),
         rw add-one v,
       )
 
@@ -95,7 +95,7 @@ module _ {A : Type 0} (next : A → A → Bool) where
 
   -- a run of k + 1 positions, by its fields
   run_is : (f : ℕ → A) (at k : ℕ) (r : Run A) → IsRun next f at r → r.len ≡ suc k → r ≡ record { start = at; len = suc k; first = f at }
-  run_is f at k r v l = λ i. record { start = v.starts i; len = l i; first = v.first-is i }
+  run_is f at k r v l = λ i. record { start = v.starts i; len = l i; first = v.first_is i }
 
   pub valid_unique : (f : ℕ → A) (at n end : ℕ) → at + n ≡ end → (rs : List (Run A)) → Valid next f at end rs → rs ≡ runs next f at n
   unfolding runs

@@ -16,5 +16,5 @@ read_len-requires c = omega arith
 
 pub returns : goal.returns
 returns c =
-    let d = rw c.read_pos.ensures at c.wrapping_sub_u32-d.ensures in
+    let d = rw c.read_pos.ensures at c.wrapping_sub_u32-d.ensures.value in
     rw c.read_len.ensures (test_is _ (records_at Passes _ c.requires.all _ c.requires.i_bound) _ _ (omega arith) (omega arith) d)

@@ -71,4 +71,4 @@ module _ (f : ℕ → Site) (at : ℕ) (r : Run Site) (v : IsRun next_site f at 
   -- "A place inside a piece gives the rest of it"
   pub rest_is : (d : ℕ) → d < r.len → piece_in (record { start = at + d; len = r.len - d; first = f (at + d) }) ≡ rest_of (piece_in r) d
   unfolding piece_in
-  rest_is d l = rw (run_site d l, ← v.first-is, ← v.starts) (rest_of_lem r.first.index r.start r.len d r.first.location)
+  rest_is d l = rw (run_site d l, ← v.first_is, ← v.starts) (rest_of_lem r.first.index r.start r.len d r.first.location)

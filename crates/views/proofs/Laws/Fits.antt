@@ -63,7 +63,7 @@ module _ (all : Bool) (f : ℕ → Source) (Q : Source → Type 0) (has : (p : �
           → All P (cond t (as_record r.start r.len r.first ∷ map run_record (selected all rs)) (map run_record (selected all rs)))
       go true e k = (
         one r.start r.len r.first e (omega (arith, valid_le next f (at + r.len) end rs v.2))
-            (rw v.0.first-is (has at)) (rw (← run_from f at r v.0 (r.len - 1) (omega arith)) (has (at + (r.len - 1)))),
+            (rw v.0.first_is (has at)) (rw (← run_from f at r v.0 (r.len - 1) (omega arith)) (has (at + (r.len - 1)))),
         k,
       )
       go false e k = k

@@ -17,7 +17,6 @@ use Rattle.codec.specs.All.{All}
 use Rattle.codec.proofs.Laws.Bools.{and_both}
 use Rattle.views.specs.Inner.{shift}
 use Rattle.slices.proofs.Laws.Cover.{layer_in, layer_before, layer_after, given-zero, given_byte}
-use Rattle.slices.proofs.Laws.Tags.{OneOf}
 use Rattle.slices.specs.declared.Record.{Record}
 use Rattle.slices.specs.declared.Source.{Source}
 use Rattle.slices.specs.declared.Source.TheVariants.{Nothing, Zero, Byte}
@@ -91,7 +90,7 @@ shift_zero Zero = refl
 shift_zero (Byte i s o) = rw add-zero
 
 pub run_from : (f : ℕ → Source) (at : ℕ) (r : Run Source) → IsRun next f at r → (k : ℕ) → k < r.len → f (at + k) ≡ shift r.first k
-run_from f at r v zero h = rw (add-zero, ← v.first-is) (shift_zero r.first)
+run_from f at r v zero h = rw (add-zero, ← v.first_is) (shift_zero r.first)
 run_from f at r v (suc k) h =
     rw add-suc (next_is r.first (f (suc (at + k))) k (rw (← run_from f at r v k (omega arith)) (v.inside (at + k) (omega arith) (omega arith))))
 
@@ -102,26 +101,23 @@ run_at f at r v p h k =
 
 -- ---- whether a source goes on with a run, by the source's kind
 
-pub not_nothing : (a : Source) → OneOf 1 2 a → is_nothing a ≡ false
+pub not_nothing : (a : Source) → (a ≡ Nothing → ⊥) → is_nothing a ≡ false
 unfolding is_nothing
-not_nothing Nothing (inl e) = absurd (omega arith)
-not_nothing Nothing (inr e) = absurd (omega arith)
+not_nothing Nothing h = absurd (h refl)
 not_nothing Zero h = refl
 not_nothing (Byte i s o) h = refl
 
-pub not_zero : (a : Source) → OneOf 0 2 a → next a Zero ≡ false
+pub not_zero : (a : Source) → (a ≡ Zero → ⊥) → next a Zero ≡ false
 unfolding next
 not_zero Nothing h = refl
-not_zero Zero (inl e) = absurd (omega arith)
-not_zero Zero (inr e) = absurd (omega arith)
+not_zero Zero h = absurd (h refl)
 not_zero (Byte i s o) h = refl
 
-pub not_byte : (a : Source) (k j t p : ℕ) → OneOf 0 1 a → next (shift a k) (Byte j t p) ≡ false
+pub not_byte : (a : Source) (k j t p : ℕ) → ((i s o : ℕ) → a ≡ Byte i s o → ⊥) → next (shift a k) (Byte j t p) ≡ false
 unfolding next shift
 not_byte Nothing k j t p h = refl
 not_byte Zero k j t p h = refl
-not_byte (Byte i s o) k j t p (inl e) = absurd (omega arith)
-not_byte (Byte i s o) k j t p (inr e) = absurd (omega arith)
+not_byte (Byte i s o) k j t p h = absurd (h i s o refl)
 
 pub next_nothing : (a : Source) (k : ℕ) → next (shift a k) Nothing ≡ is_nothing a
 unfolding next shift is_nothing

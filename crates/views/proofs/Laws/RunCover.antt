@@ -89,6 +89,6 @@ module _ (all : Bool) (f : ℕ → Source) (real : (p : ℕ) → Real (f p)) whe
       go : Dec (p < at + r.len) → (at + r.len ≤ p → p < end → cover (map run_record (selected all rs)) p ≡ laid all (f p))
           → cover (map run_record (selected all (r ∷ rs))) p ≡ laid all (f p)
       go (yes l) ih =
-          cons_in all r.start r.len r.first rs p (rw v.0.first-is (real at)) (omega arith) (omega arith)
+          cons_in all r.start r.len r.first rs p (rw v.0.first_is (real at)) (omega arith) (omega arith)
           ∙ rw (cover_out (at + r.len) end rs v.2 p (inl l)) (ap (laid all) (sym (run_at f at r v.0 p h l)))
       go (no l) ih = cons_out all r.start r.len r.first rs p (inr (omega arith)) ∙ ih (omega arith) k

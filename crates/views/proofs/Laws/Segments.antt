@@ -29,7 +29,7 @@ source_joins bs (suc i) q h = given_next (record_at bs i) q (h i refl) (ℕ_disc
 
 pub top_joins : (bs : List ℕ) (top a b : ℕ) → OnTop bs top a b → (q : ℕ) → a ≤ q → suc q < b → Joins next (cover (records bs)) q
 top_joins bs top a b t q l m =
-    rw (t.cover-is q l (omega arith), t.cover-is (suc q) (omega arith) m) (source_joins bs top q (λ i e. omega (arith, (t.covering i e).1)))
+    rw (t.cover_is q l (omega arith), t.cover_is (suc q) (omega arith) m) (source_joins bs top q (λ i e. omega (arith, (t.covering i e).1)))
 
 no_runs : (f : ℕ → Source) (end : ℕ) → length (runs next f end (end - end)) ≡ 0
 unfolding runs
@@ -43,7 +43,7 @@ module _ (bs marks tops : List ℕ) (m : ℕ) (r : Resolved bs marks tops m chun
       record {
         some = ⊎_elim (λ f. omega (arith, h.to)) (λ f. omega arith) s.one;
         inside = s.right;
-        joins = λ q a b. top_joins bs (get_or tops k 0) (get_or marks k 0) (get_or marks (k + 1) 0) (r.on-top k h.inside) q (omega (arith, h.from)) (omega (arith, s.left));
+        joins = λ q a b. top_joins bs (get_or tops k 0) (get_or marks k 0) (get_or marks (k + 1) 0) (r.on_top k h.inside) q (omega (arith, h.from)) (omega (arith, s.left));
       }
 
   -- the next segment holds the position where this one ends

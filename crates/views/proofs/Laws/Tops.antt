@@ -63,7 +63,7 @@ shown_source false bs zero p = refl
 shown_source false bs (suc i) p = sym (wanted_given (record_at bs i) p (ℕ_discrete (record_at bs i).id 0))
 
 pub shown_wanted : (all : Bool) (bs : List ℕ) (top p : ℕ) → OnTop bs top p (p + 1) → shown all top ≡ wanted all (cover (records bs) p)
-shown_wanted all bs top p t = shown_source all bs top p ∙ ap (wanted all) (sym (t.cover-is p (omega arith) (omega arith)))
+shown_wanted all bs top p t = shown_source all bs top p ∙ ap (wanted all) (sym (t.cover_is p (omega arith) (omega arith)))
 
 -- ---- a run's bytes
 

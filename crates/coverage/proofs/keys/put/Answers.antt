@@ -5,10 +5,6 @@ use lib.ListN.{length-set}
 use Rattle.coverage.proofs.Laws.Collected.{before_window, behind_window, collected_narrowed, put_outside, put_inside, put_crowded}
 use Rattle.coverage.proofs.Laws.Windows.{window_found, window_none}
 use Rattle.coverage.proofs.keys.put.Goals as goal
-use Rattle.coverage.proofs.keys.put.Goals.{After-read_be32}
-
-abbrev read_of : tie.After-read-be322 → tie.After-read-be32
-read_of c = c.before.before.before
 
 pub returns-then-start-low : goal.returns-then-start-low
 returns-then-start-low c =
@@ -22,36 +18,28 @@ returns-then-high-start c =
 
 pub returns-then-count-keys : goal.returns-then-count-keys
 returns-then-count-keys c =
-    let read = read_of (goal.at.returns-then-count-keys c).After-read_be32 in
-    let pre = read.before.before.before.pre in
-    window_found _ _ _ _ _ _ _ pre.0.1 (omega arith) (simp length-set (omega arith))
-    (put_inside _ _ _ _ _ _ _ pre.1.1 read.read-be32.ensures c.if-start-low.false c.if-high-start.false _ _ c.read_be32.ensures
+    window_found _ _ _ _ _ _ _ c.requires.i_bound.1 (omega arith) (simp length-set (omega arith))
+    (put_inside _ _ _ _ _ _ _ c.requires.collected c.read_be32-start.ensures c.if-start-low.false c.if-high-start.false _ _ c.read_be32.ensures
     (omega arith) refl c.if-count-keys.true)
 
 pub returns-then-edge-start : goal.returns-then-edge-start
 returns-then-edge-start c =
-    let read = read_of (goal.at.returns-then-edge-start c).After-read_be32 in
-    let pre = read.before.before.before.pre in
     let n = c.narrow-window.ensures in
     window_found _ _ _ _ _ _ _ n.behind n.inside (omega (arith, n.kept.fewer, c.narrow-window.auto.keys))
-    (put_outside _ _ _ _ _ _ _ (collected_narrowed _ _ _ _ _ _ pre.1.1 _ _ _ pre.0.2 c.if-count-keys.false n) read.read-be32.ensures
+    (put_outside _ _ _ _ _ _ _ (collected_narrowed _ _ _ _ _ _ c.requires.collected _ _ _ c.requires.i_bound.2 c.if-count-keys.false n) c.read_be32-start.ensures
     (behind_window _ _ _ c.if-edge-start.true))
 
 pub returns-then-kept-keys : goal.returns-then-kept-keys
 returns-then-kept-keys c =
-    let read = read_of (goal.at.returns-then-kept-keys c).After-read_be32 in
-    let pre = read.before.before.before.pre in
     let n = c.narrow-window.ensures in
     window_found _ _ _ _ _ _ _ n.behind n.inside (simp length-set (omega arith))
-    (put_inside _ _ _ _ _ _ _ (collected_narrowed _ _ _ _ _ _ pre.1.1 _ _ _ pre.0.2 c.if-count-keys.false n) read.read-be32.ensures
+    (put_inside _ _ _ _ _ _ _ (collected_narrowed _ _ _ _ _ _ c.requires.collected _ _ _ c.requires.i_bound.2 c.if-count-keys.false n) c.read_be32-start.ensures
     c.if-start-low.false c.if-edge-start.false _ _ c.read_be32.ensures (omega arith) refl c.if-kept-keys.true)
 
 pub returns : goal.returns
 returns c =
-    let read = read_of (goal.at.returns c).After-read_be32 in
-    let pre = read.before.before.before.pre in
     let n = c.narrow-window.ensures in
     let same = c.narrow-window.auto.keys in
     window_none _ _ _ _ _ (omega arith)
-    (put_crowded _ _ _ _ _ _ _ (collected_narrowed _ _ _ _ _ _ pre.1.1 _ _ _ pre.0.2 c.if-count-keys.false n) read.read-be32.ensures
-    c.if-start-low.false c.if-edge-start.false (n.narrowest (omega (arith, same, c.if-kept-keys.false))) (omega (arith, same, c.if-kept-keys.false, pre.1.0.0)))
+    (put_crowded _ _ _ _ _ _ _ (collected_narrowed _ _ _ _ _ _ c.requires.collected _ _ _ c.requires.i_bound.2 c.if-count-keys.false n) c.read_be32-start.ensures
+    c.if-start-low.false c.if-edge-start.false (n.narrowest (omega (arith, same, c.if-kept-keys.false))) (omega (arith, same, c.if-kept-keys.false, c.requires.keys_nonzero.0)))

@@ -16,7 +16,7 @@ use Rattle.files.proofs.rooms.answer.Goals as goal
 use Rattle.files.proofs.rooms.answer.Goals.{After-bits_of-bits, Start, Then-roomy}
 
 -- the bytes of the plan
-abbrev bytes : tie.Start → List ℕ
+abbrev bytes : Start → List ℕ
 bytes c = let a = c.args in bytes_of a.first a.block a.from a.end 0 (parts a.lengths.now a.lists.now)
 
 -- a block has as many bytes as its bits say
@@ -24,9 +24,10 @@ shifts : (c : After-bits_of-bits) → Shifts c.args.block c.bits_of-bits.result
 shifts c = record { power = c.bits_of-bits.ensures.0; few = c.bits_of-bits.ensures.1 }
 
 -- all pieces that can come have room
-fits : (c : Then-roomy) → length (bytes (PLACE Start)) ≤ length c.args.out.now
+fits : (c : Then-roomy)
+    → let a = c.args in length (bytes_of a.first a.block a.from a.end 0 (parts a.lengths.now a.lists.now)) ≤ length a.out.now
 fits c =
-    let s = shifts (PLACE After-bits_of-bits) in
+    let s : Shifts c.args.block c.bits_of-bits.result = record { power = c.bits_of-bits.ensures.0; few = c.bits_of-bits.ensures.1 } in
     let h = rw (← s.power) at (c.roomy.ensures c.if-roomy.true) in
     bytes_room _ _ _ _ _ _ c.requires.lengths_value.0 c.requires.lengths_value.1 (shifts_some _ _ s) _ h
 

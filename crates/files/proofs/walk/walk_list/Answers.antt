@@ -12,7 +12,7 @@ use Rattle.plans.specs.Plan.{pieces}
 use Rattle.files.specs.File.{part_from, part_end, chunk_plan}
 use Rattle.files.proofs.Laws.Walk.{nothing_put, front_here}
 use Rattle.files.proofs.walk.walk_list.Goals as goal
-use Rattle.files.proofs.walk.walk_list.Goals.{After-places_before, After-spare-1}
+use Rattle.files.proofs.walk.walk_list.Goals.{After-places_before}
 
 pub returns-then-part : goal.returns-then-part
 returns-then-part c =
@@ -23,7 +23,7 @@ returns-then-part c =
 
 pub resolve-m-requires : goal.resolve-m-requires
 resolve-m-requires c =
-    record { all = c.requires.resolvable.0.pass; list_bound = c.requires.resolvable.0.few; list_in_bounds = (c.requires.resolvable.1.marks-fit, c.requires.resolvable.1.tops_fit); list_in_bounds_2 = (c.requires.resolvable.1.pos-fit, c.requires.resolvable.1.ends-fit, c.requires.resolvable.1.order-fit, c.requires.resolvable.1.spare-fit) }
+    record { all = c.requires.resolvable.0.pass; list_bound = c.requires.resolvable.0.few; list_in_bounds = (c.requires.resolvable.1.marks_fit, c.requires.resolvable.1.tops_fit); list_in_bounds_2 = (c.requires.resolvable.1.pos_fit, c.requires.resolvable.1.ends_fit, c.requires.resolvable.1.order_fit, c.requires.resolvable.1.spare_fit) }
 
 pub overflow_add-front : goal.overflow_add-front
 overflow_add-front c = omega (arith, c.requires.k_lt_max_lists.1)
@@ -35,7 +35,7 @@ pub places_before-requires : goal.places_before-requires
 places_before-requires c = c.requires.k_lt_max_lists.0
 
 pub overflow_add-front-2 : goal.overflow_add-front-2
-overflow_add-front-2 c = omega (arith, c.requires.k_lt_max_lists.1, c.places_before.type-inv)
+overflow_add-front-2 c = omega (arith, c.requires.k_lt_max_lists.1, c.places_before.type_inv)
 
 -- what is put is the chunk's part of the plan
 same : (c : After-places_before)
@@ -45,16 +45,16 @@ same : (c : After-places_before)
     ≡ encode_pieces (chunk_plan a.first a.block a.from a.end a.k (records a.list.now))
 same c =
     let p = c.part-part.ensures in
-    front_here _ _ _ _ _ _ _ _ p.0 p.1 _ c.places_before.ensures c.places_before.type-inv
+    front_here _ _ _ _ _ _ _ _ p.0 p.1 _ c.places_before.ensures c.places_before.type_inv
 
 pub walk_pieces-requires : goal.walk_pieces-requires
 unfolding part_from part_end chunk
 walk_pieces-requires c =
     let e = c.part-part.ensures in
     let before = c.places_before in
-    record { ready = c.resolve-m.ensures; from_lt_end = (c.if-part.false, omega (arith, e.1), c.requires.k_lt_max_lists.3); from_bound = (omega (arith, e.0, e.1, before.ensures, c.requires.k_lt_max_lists.0), c.requires.k_lt_max_lists.2); from_in_bounds = (λ t. omega (arith, c.requires.list_in_bounds t, ap length (same (goal.at.walk_pieces-requires c).After-spare-1))) }
+    record { ready = c.resolve-m.ensures; from_lt_end = (c.if-part.false, omega (arith, e.1), c.requires.k_lt_max_lists.3); from_bound = (omega (arith, e.0, e.1, before.ensures, c.requires.k_lt_max_lists.0), c.requires.k_lt_max_lists.2); from_in_bounds = (λ t. omega (arith, c.requires.list_in_bounds t, ap length (same (goal.at.walk_pieces-requires c).After-places_before))) }
 
 pub returns : goal.returns
 returns c =
-    let both = rw (same (goal.at.returns c).After-spare-1) at (c.walk_pieces.ensures.value, c.walk_pieces.ensures.out_after) in
-    record { value = both.0; out_after = both.1 }
+    let e = same (goal.at.returns c).After-places_before in
+    record { value = rw e at c.walk_pieces.ensures.value; out_after = rw e at c.walk_pieces.ensures.out_after }

@@ -14,11 +14,11 @@ pub returns-then-newer-n : goal.returns-then-newer-n
 returns-then-newer-n c = let a = c.args in sym (begins_longer a.older.now a.newer.now c.if-newer-n.true)
 
 pub returns-then-not-first_same : goal.returns-then-not-first_same
-returns-then-not-first_same c = sym (c.first_same.ensures ∙ rw (not-true c.first_same.result c.if-not-first_same.true))
+returns-then-not-first_same c = sym (c.first_same.ensures ∙ rw c.if-not-first_same.true)
 
 pub loop-i-init : goal.loop-i-init
 loop-i-init c =
-    (c.first_same.ensures ∙ rw (not-false c.first_same.result c.if-not-first_same.false), omega (arith, c.few-m.ensures))
+    (c.first_same.ensures ∙ rw c.if-not-first_same.false, omega (arith, c.few-m.ensures))
 
 pub same-requires : goal.same-requires
 same-requires c = simp (length-take, length-drop) (omega (arith, c.next_end-j.ensures.0, c.next_end-j.ensures.1))

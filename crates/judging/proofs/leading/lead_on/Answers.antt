@@ -34,7 +34,7 @@ meet-met-requires c =
     record { ready = c.requires.ready; q_lt_end = (omega arith, next_fits _ _ _ _ _ t.0 t.1, c.loop-number.invariant.1, c.requires.n_bound.1) }
 
 pub overflow_add-number : goal.overflow_add-number
-overflow_add-number c = omega (arith, c.loop-number-test.true, c.well-formed)
+overflow_add-number c = omega (arith, c.loop-number-test.true, c.well_formed)
 
 pub overflow_add-place : goal.overflow_add-place
 unfolding chunk

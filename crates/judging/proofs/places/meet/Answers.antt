@@ -10,16 +10,16 @@ use Rattle.judging.proofs.places.meet.Goals as goal
 
 pub seek-segment-requires : goal.seek-segment-requires
 seek-segment-requires c =
-    record { m_in_bounds = (c.requires.ready.in-marks, c.requires.q_lt_end.2); marks_bound = (omega (arith, c.requires.ready.resolved.starts), omega (arith, c.requires.ready.resolved.ends, c.requires.q_lt_end.0, c.requires.q_lt_end.1)) }
+    record { m_in_bounds = (c.requires.ready.in_marks, c.requires.q_lt_end.2); marks_bound = (omega (arith, c.requires.ready.resolved.starts), omega (arith, c.requires.ready.resolved.ends, c.requires.q_lt_end.0, c.requires.q_lt_end.1)) }
 
 pub loop-at-init : goal.loop-at-init
 loop-at-init c = (λ j l. absurd (omega arith), c.seek-segment.ensures, omega arith, c.requires.q_lt_end.0)
 
 pub offset_bounds-tops-segment : goal.offset_bounds-tops-segment
-offset_bounds-tops-segment c = omega (arith, c.loop-at.invariant.1.inside, c.requires.ready.in-tops)
+offset_bounds-tops-segment c = omega (arith, c.loop-at.invariant.1.inside, c.requires.ready.in_tops)
 
 pub bounds-tops-segment : goal.bounds-tops-segment
-bounds-tops-segment c = omega (arith, c.loop-at.invariant.1.inside, c.requires.ready.in-tops)
+bounds-tops-segment c = omega (arith, c.loop-at.invariant.1.inside, c.requires.ready.in_tops)
 
 pub overflow_sub-at : goal.overflow_sub-at
 overflow_sub-at c = c.loop-at.invariant.2
@@ -39,7 +39,7 @@ returns-then-end-at c =
     record { lies_at = (λ t j l. lies_on _ _ _ _ _ i.2 _ c.same_at.ensures c.if-same_at.true _ _ c.same_block_to-at.ensures.unbroken.0 i.0 j (omega (arith, c.if-end-at.true)), λ t. absurd (true≢false t)); segment_lt_m = i.1.inside }
 
 pub following-segment-requires : goal.following-segment-requires
-following-segment-requires c = omega (arith, c.loop-at.invariant.1.inside, c.requires.ready.in-marks)
+following-segment-requires c = omega (arith, c.loop-at.invariant.1.inside, c.requires.ready.in_marks)
 
 pub loop-at-smaller : goal.loop-at-smaller
 loop-at-smaller c =

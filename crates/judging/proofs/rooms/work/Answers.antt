@@ -27,7 +27,7 @@ sift_all-number-requires c =
 
 pub overflow_mul-number : goal.overflow_mul-number
 overflow_mul-number c =
-    omega (arith, c.sift_all-number.ensures.within, c.first_misformed-limit.ensures.upper_bound.0, c.well-formed)
+    omega (arith, c.sift_all-number.ensures.within, c.first_misformed-limit.ensures.upper_bound.0, c.well_formed)
 
 pub returns-then-number-plan : goal.returns-then-number-plan
 returns-then-number-plan c =

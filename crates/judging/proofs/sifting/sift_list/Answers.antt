@@ -9,7 +9,7 @@ returns-then-part c =
 
 pub resolve-m-requires : goal.resolve-m-requires
 resolve-m-requires c =
-    record { all = c.requires.resolvable.0.pass; list_bound = c.requires.resolvable.0.few; list_in_bounds = (c.requires.resolvable.1.marks-fit, c.requires.resolvable.1.tops_fit); list_in_bounds_2 = (c.requires.resolvable.1.pos-fit, c.requires.resolvable.1.ends-fit, c.requires.resolvable.1.order-fit, c.requires.resolvable.1.spare-fit) }
+    record { all = c.requires.resolvable.0.pass; list_bound = c.requires.resolvable.0.few; list_in_bounds = (c.requires.resolvable.1.marks_fit, c.requires.resolvable.1.tops_fit); list_in_bounds_2 = (c.requires.resolvable.1.pos_fit, c.requires.resolvable.1.ends_fit, c.requires.resolvable.1.order_fit, c.requires.resolvable.1.spare_fit) }
 
 pub sift_on-requires : goal.sift_on-requires
 sift_on-requires c =

@@ -12,7 +12,7 @@ pub loop-i-init : goal.loop-i-init
 loop-i-init c = (λ j l. absurd (omega arith), some_segment _ _ _ _ c.requires.ready.resolved, omega arith)
 
 pub overflow_mul-i : goal.overflow_mul-i
-overflow_mul-i c = omega (arith, c.loop-i-test.true, c.requires.limit_in_bounds.0, c.well-formed)
+overflow_mul-i c = omega (arith, c.loop-i-test.true, c.requires.limit_in_bounds.0, c.well_formed)
 
 pub read_piece-p-requires : goal.read_piece-p-requires
 read_piece-p-requires c = omega (arith, c.loop-i-test.true, c.requires.limit_in_bounds.0)

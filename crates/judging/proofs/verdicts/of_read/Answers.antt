@@ -7,14 +7,14 @@ use Rattle.judging.proofs.Laws.Looked.{piece_named, place_said, led_said, found_
 use Rattle.judging.proofs.verdicts.of_read.Goals as goal
 
 pub overflow_mul-lead : goal.overflow_mul-lead
-overflow_mul-lead c = omega (arith, (c.in_room-lead.ensures.0 refl).within, c.well-formed)
+overflow_mul-lead c = omega (arith, (c.in_room-lead.ensures.0 refl).within, c.well_formed)
 
 pub returns-then-lead-plan : goal.returns-then-lead-plan
 returns-then-lead-plan c = c.of_place.ensures ∙ led_said _ _ _ _ _ _ _ _ (c.in_room-lead.ensures.0 refl) c.if-lead-plan.true
 
 pub overflow_mul-found : goal.overflow_mul-found
 overflow_mul-found c =
-    omega (arith, (c.in_room-found.ensures.1 refl).0.within, (c.in_room-found.ensures.1 refl).0.sifted.within, c.well-formed)
+    omega (arith, (c.in_room-found.ensures.1 refl).0.within, (c.in_room-found.ensures.1 refl).0.sifted.within, c.well_formed)
 
 pub returns-then-found-plan : goal.returns-then-found-plan
 returns-then-found-plan c =

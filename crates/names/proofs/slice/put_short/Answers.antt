@@ -10,7 +10,7 @@ use Rattle.codec.proofs.Laws.Width.{thousandth_width}
 use Rattle.names.proofs.Laws.Length.{slice_length}
 use Rattle.names.proofs.Laws.Slice.{no_millions, short_parts}
 use Rattle.names.proofs.slice.put_short.Goals as goal
-use Rattle.names.proofs.slice.put_short.Goals.{After-put_word-arg-2-1, After-thousandth-thousands}
+use Rattle.names.proofs.slice.put_short.Goals.{After-thousandth-thousands}
 
 -- how many digits the thousands have
 thousands : (c : After-thousandth-thousands) → c.thousandth-thousands.result ≡ length (decimal (c.args.id / 1000))
@@ -23,18 +23,18 @@ put_word-a-requires c =
 
 pub put_number_word-b-requires : goal.put_number_word-b-requires
 put_number_word-b-requires c =
-    let t = thousands (goal.at.put_number_word-b-requires c).After-put_word-arg-2-1 in
+    let t = thousands (goal.at.put_number_word-b-requires c).After-thousandth-thousands in
     (t, omega (arith, slice_length c.args.id, ap length (no_millions c.args.id (omega (arith, c.requires.0, c.requires.1))), t, c.requires.2), c.requires.3)
 
 pub put_digits-requires : goal.put_digits-requires
 put_digits-requires c =
-    (c.requires.1, omega (arith, slice_length c.args.id, ap length (no_millions c.args.id (omega (arith, c.requires.0, c.requires.1))), thousands (goal.at.put_digits-requires c).After-put_word-arg-2-1, c.requires.1, c.requires.2), c.requires.3)
+    (c.requires.1, omega (arith, slice_length c.args.id, ap length (no_millions c.args.id (omega (arith, c.requires.0, c.requires.1))), thousands (goal.at.put_digits-requires c).After-thousandth-thousands, c.requires.1, c.requires.2), c.requires.3)
 
 pub returns : goal.returns
 returns c =
     let n = slice_length c.args.id in
     let m = ap length (no_millions c.args.id (omega (arith, c.requires.0, c.requires.1))) in
-    let t = thousands (goal.at.returns c).After-put_word-arg-2-1 in
+    let t = thousands (goal.at.returns c).After-thousandth-thousands in
     let p2 = puts_then c.put_word-a.ensures c.put_number_word-b.ensures (omega (arith, n, m, t, c.requires.2)) in
     let p3 = puts_then p2 c.put_digits.ensures (omega (arith, n, m, t, c.requires.1, c.requires.2)) in
     puts_as (slice_path c.args.id) p3 (short_parts c.args.id (omega (arith, c.requires.0, c.requires.1))) (omega (arith, n, m, t, c.requires.1))

@@ -6,12 +6,11 @@ use Rattle.plans.proofs.Laws.Locations.{location_hole, location_short, location_
 use Rattle.plans.proofs.locations.location_of.Goals as goal
 
 pub returns-in_default : goal.returns-in_default
-returns-in_default c = sym (location_hole _ _ c.in_default.keys2)
+returns-in_default c = sym (location_hole _ _ c.in_default.not-Byte)
 
 pub overflow_mul-left : goal.overflow_mul-left
 overflow_mul-left c =
-    let v = c.s-1.given.0 in
-    omega (arith, div-mul-le_self v.1.1.0 c.args.block)
+    omega (arith, div-mul-le_self c.in-Byte.off c.args.block)
 
 pub overflow_sub-left : goal.overflow_sub-left
 overflow_sub-left c = omega (arith, div-mul-le_self c.in-Byte.off c.args.block, rw c.in-Byte.is at c.requires.inside)

@@ -19,13 +19,13 @@ on c =
     resolved_next _ _ _ _ _ c.requires.ready.resolved _ _ i.1 (omega (arith, i.3, c.if-e-marks.false)) (omega (arith, c.loop-e-test.true, c.requires.p_lt_end.1))
 
 pub offset_bounds-tops-k : goal.offset_bounds-tops-k
-offset_bounds-tops-k c = omega (arith, c.requires.holds.inside, c.requires.ready.in-tops)
+offset_bounds-tops-k c = omega (arith, c.requires.holds.inside, c.requires.ready.in_tops)
 
 pub bounds-tops-k : goal.bounds-tops-k
-bounds-tops-k c = omega (arith, c.requires.holds.inside, c.requires.ready.in-tops)
+bounds-tops-k c = omega (arith, c.requires.holds.inside, c.requires.ready.in_tops)
 
 pub id_on-id-requires : goal.id_on-id-requires
-id_on-id-requires c = λ i e. ((c.requires.ready.resolved.on-top _ c.requires.holds.inside).covering i e).0
+id_on-id-requires c = λ i e. ((c.requires.ready.resolved.on_top _ c.requires.holds.inside).covering i e).0
 
 pub same_block_to-e-requires : goal.same_block_to-e-requires
 same_block_to-e-requires c =
@@ -36,13 +36,13 @@ loop-e-init c =
     (c.same_block_to-e.ensures.unbroken.0, c.requires.holds.inside, omega (arith, c.same_block_to-e.ensures.unbroken.0.some, c.requires.holds.from), c.same_block_to-e.ensures.unbroken.1, c.same_block_to-e.ensures.stops)
 
 pub overflow_add-segment : goal.overflow_add-segment
-overflow_add-segment c = omega (arith, c.loop-e.invariant.1, c.requires.ready.in-marks)
+overflow_add-segment c = omega (arith, c.loop-e.invariant.1, c.requires.ready.in_marks)
 
 pub offset_bounds-marks-segment : goal.offset_bounds-marks-segment
-offset_bounds-marks-segment c = omega (arith, c.loop-e.invariant.1, c.requires.ready.in-marks)
+offset_bounds-marks-segment c = omega (arith, c.loop-e.invariant.1, c.requires.ready.in_marks)
 
 pub bounds-marks-segment : goal.bounds-marks-segment
-bounds-marks-segment c = omega (arith, c.loop-e.invariant.1, c.requires.ready.in-marks)
+bounds-marks-segment c = omega (arith, c.loop-e.invariant.1, c.requires.ready.in_marks)
 
 pub returns-then-e-marks : goal.returns-then-e-marks
 returns-then-e-marks c =
@@ -50,13 +50,13 @@ returns-then-e-marks c =
     record { leads = leads_stops next_location onward onward-zero next_location_is _ _ _ _ i.0 (i.4 c.if-e-marks.true); holds_2 = (λ h. record { inside = i.1; from = i.2; to = c.if-e-marks.true }) }
 
 pub overflow_add-segment-in-loop-e : goal.overflow_add-segment-in-loop-e
-overflow_add-segment-in-loop-e c = omega (arith, (on c).inside, c.requires.ready.in-marks)
+overflow_add-segment-in-loop-e c = omega (arith, (on c).inside, c.requires.ready.in_marks)
 
 pub offset_bounds-tops-segment : goal.offset_bounds-tops-segment
-offset_bounds-tops-segment c = omega (arith, (on c).inside, c.requires.ready.in-tops)
+offset_bounds-tops-segment c = omega (arith, (on c).inside, c.requires.ready.in_tops)
 
 pub bounds-tops-segment : goal.bounds-tops-segment
-bounds-tops-segment c = omega (arith, (on (goal.at.bounds-tops-segment c).Else-e-marks).inside, c.requires.ready.in-tops)
+bounds-tops-segment c = omega (arith, (on (goal.at.bounds-tops-segment c).Else-e-marks).inside, c.requires.ready.in_tops)
 
 pub joins-requires : goal.joins-requires
 joins-requires c =

@@ -17,7 +17,7 @@ on_top c = top_within _ _ _ _ c.requires.on_top _ _ (omega arith) (omega (arith,
 -- the record that gives it its byte
 giving : (c : After-wide) → let a = c.args in Giving a.list.now a.top a.p (c.wide.result - 1)
 giving c =
-    top_giving _ _ _ _ c.requires.all (on_top (PLACE Start)) (λ e. false≢true (sym c.if-is_none.false ∙ c.is_none.ensures ∙ eq-eqb _ 0 (c.id_on.ensures ∙ e))) c.wide.ensures
+    top_giving _ _ _ _ c.requires.all (top_within _ _ _ _ c.requires.on_top _ _ (omega arith) (omega (arith, c.requires.p_lt_e.0))) (λ e. false≢true (sym c.if-is_none.false ∙ c.is_none.ensures ∙ eq-eqb _ 0 (c.id_on.ensures ∙ e))) c.wide.ensures
 
 pub id_on-requires : goal.id_on-requires
 id_on-requires c = λ i e. (c.requires.on_top.covering i e).0

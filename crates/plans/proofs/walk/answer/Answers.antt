@@ -24,10 +24,10 @@ use Rattle.plans.proofs.walk.answer.Goals as goal
 use Rattle.plans.proofs.walk.answer.Goals.{Start, Then-roomy}
 
 -- the plan, and its bytes
-abbrev planned : tie.Start → List (Run Location)
+abbrev planned : Start → List (Run Location)
 planned c = let a = c.args in pieces a.block (records a.list.now) a.from (a.end - a.from)
 
-abbrev bytes : tie.Start → List ℕ
+abbrev bytes : Start → List ℕ
 bytes c = chunk_bytes c.args.index 0 (planned c)
 
 -- a walk counts these bytes, and writes them
@@ -38,7 +38,8 @@ writes : (c : Start) (o o' : List ℕ) → o' ≡ splice o 0 (front_bytes (c.arg
 writes c o o' e = e ∙ ap (splice o 0) (front_chunk c.args.index (planned c))
 
 -- all pieces that can come have room
-fits : (c : Then-roomy) → length (bytes (PLACE Start)) ≤ length c.args.out.now
+fits : (c : Then-roomy)
+    → let a = c.args in length (chunk_bytes a.index 0 (pieces a.block (records a.list.now) a.from (a.end - a.from))) ≤ length a.out.now
 fits c =
     let s = c.requires.from_lt_end.2 in
     let h = rw (← s.power) at (c.roomy.ensures c.if-roomy.true) in

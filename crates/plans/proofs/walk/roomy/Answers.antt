@@ -12,7 +12,7 @@ overflow_add-result c = omega (arith, c.requires.0)
 
 pub overflow_add-result-2 : goal.overflow_add-result-2
 unfolding chunk
-overflow_add-result-2 c = omega (arith, c.requires.0, c.number_of.type-inv)
+overflow_add-result-2 c = omega (arith, c.requires.0, c.number_of.type_inv)
 
 pub returns : goal.returns
 returns c =

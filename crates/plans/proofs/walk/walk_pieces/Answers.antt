@@ -36,17 +36,17 @@ on_top c = resolved_at _ _ _ _ _ c.requires.ready.resolved _ _ (held c)
 pub find-k-requires : goal.find-k-requires
 find-k-requires c =
     let r = c.requires.ready.resolved in
-    record { m_in_bounds = c.requires.ready.in-marks; marks_bound = (omega (arith, r.starts), omega (arith, r.ends, c.requires.from_lt_end.0, c.requires.from_lt_end.1)) }
+    record { m_in_bounds = c.requires.ready.in_marks; marks_bound = (omega (arith, r.starts), omega (arith, r.ends, c.requires.from_lt_end.0, c.requires.from_lt_end.1)) }
 
 pub loop-p-init : goal.loop-p-init
 loop-p-init c =
     (filled_start _ _ _ _ _ _ _ _ _ (omega (arith, c.requires.from_lt_end.0)) (λ t. omega (arith, ap length (bytes (goal.at.loop-p-init c).Start), c.requires.from_in_bounds t)), (λ h. c.find-k.ensures), le_refl _)
 
 pub offset_bounds-tops-k : goal.offset_bounds-tops-k
-offset_bounds-tops-k c = omega (arith, (held c).inside, c.requires.ready.in-tops)
+offset_bounds-tops-k c = omega (arith, (held c).inside, c.requires.ready.in_tops)
 
 pub bounds-tops-k : goal.bounds-tops-k
-bounds-tops-k c = omega (arith, (held (goal.at.bounds-tops-k c).In-loop-p).inside, c.requires.ready.in-tops)
+bounds-tops-k c = omega (arith, (held (goal.at.bounds-tops-k c).In-loop-p).inside, c.requires.ready.in_tops)
 
 pub reach-run-requires : goal.reach-run-requires
 reach-run-requires c =

@@ -24,9 +24,6 @@ offset_bounds-words-a c = omega (arith, c.clear-left.ensures.inside)
 pub bounds-words-a : goal.bounds-words-a
 bounds-words-a c = omega (arith, c.clear-left.ensures.inside, c.loop-sum.invariant.0.size)
 
--- TODO add-t13 : tie.Need-overflow-add-t13 invariant_loop decreases_loop
--- add-t13 c = omega (arith, (c.before.before.before.clear.ensures.more c.before.if1.true).1.within)
-
 pub shape_of-words-then-left-gt0 : goal.shape_of-words-then-left-gt0
 shape_of-words-then-left-gt0 c = (c.clear-left.ensures.more c.if-left-gt0.true).0.size ∙ sym c.requires.summed.size
 

@@ -9,7 +9,7 @@ use Rattle.slices.specs.Record.{record_at, count}
 use Rattle.slices.specs.Tree.{AtNode, AtFree}
 use Rattle.slices.proofs.Laws.Tree.{enter_zeros, enter_same, enter_other, enter_new}
 use Rattle.slices.proofs.tree.enter.Goals as goal
-use Rattle.slices.proofs.tree.enter.Goals.{After-read_id-id, Else-id-eq0, In-Free, In-Node}
+use Rattle.slices.proofs.tree.enter.Goals.{Else-id-eq0, In-Free, In-Node}
 
 -- the search ends at a record with the id
 at_node : (c : In-Node)
@@ -49,7 +49,7 @@ read_size-requires-in-Node c = omega arith
 
 pub returns-then-read_size : goal.returns-then-read_size
 returns-then-read_size c =
-    enter_same _ _ _ _ c.requires.room (some_id (goal.at.returns-then-read_size c).After-read_id-id) _ (at_node (goal.at.returns-then-read_size c).In-Node)
+    enter_same _ _ _ _ c.requires.room (some_id (goal.at.returns-then-read_size c).Else-id-eq0) _ (at_node (goal.at.returns-then-read_size c).In-Node)
     (sym c.read_size.ensures ∙ c.if-read_size.true ∙ c.read_size-in-Node.ensures)
 
 pub overflow_add-table : goal.overflow_add-table
@@ -68,9 +68,9 @@ bounds-table-s c = free_in c
 
 pub returns-else-read_size : goal.returns-else-read_size
 returns-else-read_size c =
-    enter_other _ _ _ _ c.requires.room (some_id (goal.at.returns-else-read_size c).After-read_id-id) _ (at_node (goal.at.returns-else-read_size c).In-Node)
+    enter_other _ _ _ _ c.requires.room (some_id (goal.at.returns-else-read_size c).Else-id-eq0) _ (at_node (goal.at.returns-else-read_size c).In-Node)
     (λ z. c.if-read_size.false (c.read_size.ensures ∙ z ∙ sym c.read_size-in-Node.ensures))
 
 pub returns-in-Free : goal.returns-in-Free
 returns-in-Free c =
-    rw add-one (enter_new _ _ _ _ c.requires.room (some_id (goal.at.returns-in-Free c).After-read_id-id) _ (at_free c) (free_in c))
+    rw add-one (enter_new _ _ _ _ c.requires.room (some_id (goal.at.returns-in-Free c).Else-id-eq0) _ (at_free c) (free_in c))

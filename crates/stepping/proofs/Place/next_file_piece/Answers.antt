@@ -20,10 +20,10 @@ use Rattle.stepping.proofs.Place.next_file_piece.Goals as goal
 use Rattle.stepping.proofs.Place.next_file_piece.Goals.{Else-wrong_chunks, In-Accepted-2, Then-block_allowed}
 
 -- the chunks are not wrong
-not_wrong : (c : Else-wrong_chunks) → let a = c.args in wrong_chunks a.lengths.now (length a.lists.now) a.first-index ≡ false
+not_wrong : (c : Else-wrong_chunks) → let a = c.args in wrong_chunks a.lengths.now (length a.lists.now) a.first_index ≡ false
 not_wrong c = sym c.wrong_chunks.ensures ∙ c.if-wrong_chunks.false
 
-right : (c : Else-wrong_chunks) → let a = c.args in Right a.lengths.now (length a.lists.now) a.first-index
+right : (c : Else-wrong_chunks) → let a = c.args in Right a.lengths.now (length a.lists.now) a.first_index
 right c = right_chunks _ _ _ (not_wrong c)
 
 -- the block size is allowed
@@ -31,7 +31,7 @@ allowed : (c : Then-block_allowed) → block_allowed c.args.block_size ≡ true
 allowed c = sym c.block_allowed.ensures ∙ c.if-block_allowed.true
 
 -- all lists are accepted
-told : (c : In-Accepted-2) → let a = c.args in checked_lists (lists_outcome a.first-index (parts a.lengths.now a.lists.now)) ≡ Accepted c.in-Accepted.n
+told : (c : In-Accepted-2) → let a = c.args in checked_lists (lists_outcome a.first_index (parts a.lengths.now a.lists.now)) ≡ Accepted c.in-Accepted.n
 told c = sym c.check_lists.ensures ∙ c.in-Accepted.is
 
 pub returns-then-wrong_chunks : goal.returns-then-wrong_chunks

@@ -9,7 +9,7 @@ use Rattle.views.proofs.Laws.Next.{not_byte}
 use Rattle.views.proofs.maximal.follows.Goals as goal
 
 pub returns-in_default : goal.returns-in_default
-returns-in_default c = sym (not_byte _ _ _ _ _ c.in_default.keys2)
+returns-in_default c = sym (not_byte _ _ _ _ _ c.in_default.not-Byte)
 
 pub returns-then-id-i : goal.returns-then-id-i
 unfolding next shift

@@ -9,4 +9,4 @@ unfolding is_nothing
 returns-in-Nothing c = rw c.in-Nothing.is
 
 pub returns-in_default : goal.returns-in_default
-returns-in_default c = sym (not_nothing _ c.in_default.keys2)
+returns-in_default c = sym (not_nothing _ c.in_default.not-Nothing)

@@ -9,4 +9,4 @@ unfolding next
 returns-in-Zero c = rw c.in-Zero.is
 
 pub returns-in_default : goal.returns-in_default
-returns-in_default c = sym (not_zero _ c.in_default.keys2)
+returns-in_default c = sym (not_zero _ c.in_default.not-Zero)

@@ -20,29 +20,29 @@ on c =
     segment_next _ _ _ _ c.requires.ready.resolved _ _ _ i.1 c.requires.p_lt_end.1 i.2 c.loop-e-test.true
 
 pub offset_bounds-tops-k : goal.offset_bounds-tops-k
-offset_bounds-tops-k c = omega (arith, c.requires.holds.inside, c.requires.ready.in-tops)
+offset_bounds-tops-k c = omega (arith, c.requires.holds.inside, c.requires.ready.in_tops)
 
 pub bounds-tops-k : goal.bounds-tops-k
-bounds-tops-k c = omega (arith, c.requires.holds.inside, c.requires.ready.in-tops)
+bounds-tops-k c = omega (arith, c.requires.holds.inside, c.requires.ready.in_tops)
 
 pub id_on-id-requires : goal.id_on-id-requires
-id_on-id-requires c = λ i e. ((c.requires.ready.resolved.on-top _ c.requires.holds.inside).covering i e).0
+id_on-id-requires c = λ i e. ((c.requires.ready.resolved.on_top _ c.requires.holds.inside).covering i e).0
 
 pub until-e-requires : goal.until-e-requires
-until-e-requires c = omega (arith, c.requires.holds.inside, c.requires.ready.in-marks)
+until-e-requires c = omega (arith, c.requires.holds.inside, c.requires.ready.in_marks)
 
 pub loop-e-init : goal.loop-e-init
 loop-e-init c =
     (segment_unbroken _ _ _ _ c.requires.ready.resolved _ _ _ _ c.requires.p_lt_end.0 c.requires.holds c.until-e.ensures, c.requires.holds.inside, c.until-e.ensures)
 
 pub overflow_add-segment : goal.overflow_add-segment
-overflow_add-segment c = omega (arith, (on c).inside, c.requires.ready.in-tops)
+overflow_add-segment c = omega (arith, (on c).inside, c.requires.ready.in_tops)
 
 pub offset_bounds-tops-segment : goal.offset_bounds-tops-segment
-offset_bounds-tops-segment c = omega (arith, (on c).inside, c.requires.ready.in-tops)
+offset_bounds-tops-segment c = omega (arith, (on c).inside, c.requires.ready.in_tops)
 
 pub bounds-tops-segment : goal.bounds-tops-segment
-bounds-tops-segment c = omega (arith, (on (goal.at.bounds-tops-segment c).In-loop-e).inside, c.requires.ready.in-tops)
+bounds-tops-segment c = omega (arith, (on (goal.at.bounds-tops-segment c).In-loop-e).inside, c.requires.ready.in_tops)
 
 pub joins-requires : goal.joins-requires
 joins-requires c =
@@ -51,7 +51,7 @@ joins-requires c =
 
 pub until-e-requires-then-joins : goal.until-e-requires-then-joins
 until-e-requires-then-joins c =
-    omega (arith, (on (goal.at.until-e-requires-then-joins c).In-loop-e).inside, c.requires.ready.in-marks)
+    omega (arith, (on (goal.at.until-e-requires-then-joins c).In-loop-e).inside, c.requires.ready.in_marks)
 
 pub loop-e-smaller : goal.loop-e-smaller
 loop-e-smaller c =

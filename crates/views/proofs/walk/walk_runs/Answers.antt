@@ -26,10 +26,10 @@ loop-p-init c =
     (filled_start _ _ _ _ _ _ _ _ _ zero-le (λ t. omega (arith, c.requires.end_in_bounds t)), (λ h. resolved_front _ _ _ _ _ c.requires.ready.resolved (omega (arith, h, c.requires.end_le_chunk))))
 
 pub offset_bounds-tops-k : goal.offset_bounds-tops-k
-offset_bounds-tops-k c = omega (arith, (c.loop-p.invariant.1 c.loop-p-test.true).inside, c.requires.ready.in-tops)
+offset_bounds-tops-k c = omega (arith, (c.loop-p.invariant.1 c.loop-p-test.true).inside, c.requires.ready.in_tops)
 
 pub bounds-tops-k : goal.bounds-tops-k
-bounds-tops-k c = omega (arith, (c.loop-p.invariant.1 c.loop-p-test.true).inside, c.requires.ready.in-tops)
+bounds-tops-k c = omega (arith, (c.loop-p.invariant.1 c.loop-p-test.true).inside, c.requires.ready.in_tops)
 
 pub reach-run-requires : goal.reach-run-requires
 reach-run-requires c =
