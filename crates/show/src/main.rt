@@ -4,7 +4,7 @@
 ghost use Rattle.std.specs.Prelude.{length, ◌≡◌};
 ghost use Rattle.listing.specs.Calls.{text_room};
 ghost use Rattle.listing.specs.Listing.{file_limit};
-ghost use Rattle.show.specs.Inner.{Within};
+ghost use Rattle.show.specs.Inner.{Within, Holds};
 
 use outcomes::Answer;
 use std::fs::File;
@@ -20,7 +20,8 @@ pub enum Input {
 
 // Reads a whole file into a buffer, and asks for one byte more once the buffer is full.
 fn read_file<R: Read>(file: &mut R, buf: &mut [u8]) -> Input
-    ensures { Within (length buf.new) result }
+    ensures within { Within (length buf.new) result }
+    ensures bytes { Holds (R.remaining file.old) buf.new result }
 {
     let mut done = 0;
     while done < buf.len() {
