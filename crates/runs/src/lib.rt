@@ -1,3 +1,2 @@
 // Maximal runs of anything on positions: definitions and laws alone.
 #![tactic(auto)]
-

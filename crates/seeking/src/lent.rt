@@ -1,4 +1,4 @@
-// A lent row of segments. What takes one is proved by a walk of its code, so there is little here; the rest is covered code over numbers and bytes.
+// A lent row of segments: halving in it, and filling it with the records of some bytes.
 ghost use Rattle.std.specs.Prelude.{◌≡◌, ℕ, ◌<◌, ◌≤◌, length, get_or};
 ghost use Rattle.slices.specs.Record.{count};
 ghost use Rattle.seeking.specs.Seek.{halve, no_segment};

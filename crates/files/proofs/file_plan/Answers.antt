@@ -15,7 +15,7 @@ use Rattle.files.specs.File.{file_end}
 use Rattle.files.proofs.Laws.Chunks.{Right, right_chunks}
 use Rattle.files.proofs.Laws.Calls.{file_21, file_8, file_refused, file_accepted, accepted_count}
 use Rattle.files.proofs.file_plan.Goals as goal
-use Rattle.files.proofs.file_plan.Goals.{Else-wrong_chunks, In-Accepted-2, Then-block_allowed}
+use Rattle.files.proofs.file_plan.Goals.{Else-wrong_chunks, In-Accepted, Then-block_allowed}
 
 -- the chunks are not wrong
 right : (c : Else-wrong_chunks) → let a = c.args in Right a.lengths.now (length a.lists.now) a.first_index
@@ -26,7 +26,7 @@ allowed : (c : Then-block_allowed) → block_allowed c.args.block_size ≡ true
 allowed c = sym c.block_allowed.ensures ∙ c.if-block_allowed.true
 
 -- all lists are accepted
-told : (c : In-Accepted-2) → let a = c.args in checked_lists (lists_outcome a.first_index (parts a.lengths.now a.lists.now)) ≡ Accepted c.in-Accepted.n
+told : (c : In-Accepted) → let a = c.args in checked_lists (lists_outcome a.first_index (parts a.lengths.now a.lists.now)) ≡ Accepted c.in-Accepted.n
 told c = sym c.check_lists.ensures ∙ c.in-Accepted.is
 
 pub returns-then-wrong_chunks : goal.returns-then-wrong_chunks
@@ -41,13 +41,13 @@ check_lists-requires c =
 pub file_end-requires : goal.file_end-requires
 file_end-requires c =
     let r = right (goal.at.file_end-requires c).Else-wrong_chunks in
-    (omega (arith, r.indexes, r.some), omega (arith, r.few, accepted_count _ _ _ _ (told (goal.at.file_end-requires c).In-Accepted-2)))
+    (omega (arith, r.indexes, r.some), omega (arith, r.few, accepted_count _ _ _ _ (told (goal.at.file_end-requires c).In-Accepted)))
 
 pub cut-read-requires : goal.cut-read-requires
 unfolding file_end chunk
 cut-read-requires c =
     let r = right (goal.at.cut-read-requires c).Else-wrong_chunks in
-    omega (arith, c.file_end.ensures, r.few, accepted_count _ _ _ _ (told (goal.at.cut-read-requires c).In-Accepted-2))
+    omega (arith, c.file_end.ensures, r.few, accepted_count _ _ _ _ (told (goal.at.cut-read-requires c).In-Accepted))
 
 pub overflow_cast-first_index : goal.overflow_cast-first_index
 overflow_cast-first_index c =
@@ -60,7 +60,7 @@ overflow_cast-block_size c = omega (arith, block_range _ (allowed (goal.at.overf
 pub answer-requires : goal.answer-requires
 answer-requires c =
     let r = right (goal.at.answer-requires c).Else-wrong_chunks in
-    record { lengths_value = (r.adds, lists_accepted _ _ _ (said_accepted _ _ (told (goal.at.answer-requires c).In-Accepted-2))); lengths_len_bound = (r.few, r.indexes, c.cut-read.ensures.order); block_value = allowed (goal.at.answer-requires c).Then-block_allowed }
+    record { lengths_value = (r.adds, lists_accepted _ _ _ (said_accepted _ _ (told (goal.at.answer-requires c).In-Accepted))); lengths_len_bound = (r.few, r.indexes, c.cut-read.ensures.order); block_value = allowed (goal.at.answer-requires c).Then-block_allowed }
 
 pub returns-in-Refused : goal.returns-in-Refused
 returns-in-Refused c =
@@ -70,7 +70,7 @@ returns-in-Refused c =
 pub returns-in-Accepted : goal.returns-in-Accepted
 returns-in-Accepted c =
     replies_as _ _ _ _
-    (file_accepted _ _ _ _ _ _ _ _ (sym c.wrong_chunks.ensures ∙ c.if-wrong_chunks.false) (allowed (goal.at.returns-in-Accepted c).Then-block_allowed) _ (told (goal.at.returns-in-Accepted c).In-Accepted-2) _ _ (rw c.file_end.ensures at c.cut-read.ensures))
+    (file_accepted _ _ _ _ _ _ _ _ (sym c.wrong_chunks.ensures ∙ c.if-wrong_chunks.false) (allowed (goal.at.returns-in-Accepted c).Then-block_allowed) _ (told (goal.at.returns-in-Accepted c).In-Accepted) _ _ (rw c.file_end.ensures at c.cut-read.ensures))
     c.answer.ensures
 
 pub returns-else-block_allowed : goal.returns-else-block_allowed

@@ -50,12 +50,12 @@ module _ (f : ℕ → Site) (n : ℕ) (plan : List ℕ) where
           record {
             right = none_wrong (ltb-false _ _ e);
             inside = l;
-            not_once_lem = held.first-other rs n l;
-            before = held.first-before rs n;
+            not_once_lem = held.first_other rs n l;
+            before = held.first_before rs n;
           }
       go false e false g =
           let l = ltb-false (first_not_once rs n) n g in
-          record { right = none_wrong (ltb-false _ _ e); once = λ i h. held.first-before rs n i (omega arith) }
+          record { right = none_wrong (ltb-false _ _ e); once = λ i h. held.first_before rs n i (omega arith) }
 
   -- ---- and is said wherever that holds
 
@@ -80,7 +80,7 @@ module _ (f : ℕ → Site) (n : ℕ) (plan : List ℕ) where
 
   accepted_said : Acceptable f n plan → verdict f n plan ≡ accepted
   accepted_said a =
-      let e = held.first-none rs n a.once in
+      let e = held.first_none rs n a.once in
       byte_decides a.right ∙ rw (e, le-ltb n n (omega arith))
 
   pub rejected_exactly : Exactly f n plan

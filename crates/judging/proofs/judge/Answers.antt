@@ -17,7 +17,7 @@ use Rattle.files.proofs.Laws.Chunks.{Right, right_chunks}
 use Rattle.files.proofs.Laws.Calls.{chunks_21, chunks_8, chunks_refused, accepted_count}
 use Rattle.judging.proofs.Laws.Answers.{judge_refused, judge_empty, judge_read}
 use Rattle.judging.proofs.judge.Goals as goal
-use Rattle.judging.proofs.judge.Goals.{Else-wrong_chunks, In-Accepted-2, Then-block_allowed}
+use Rattle.judging.proofs.judge.Goals.{Else-wrong_chunks, In-Accepted, Then-block_allowed}
 
 -- the chunks are not wrong
 not_wrong : (c : Else-wrong_chunks) → let a = c.args in wrong_chunks a.lengths.now (length a.lists.now) a.first_index ≡ false
@@ -31,7 +31,7 @@ allowed : (c : Then-block_allowed) → block_allowed c.args.block_size ≡ true
 allowed c = sym c.block_allowed.ensures ∙ c.if-block_allowed.true
 
 -- all lists are accepted
-told : (c : In-Accepted-2) → let a = c.args in checked_lists (lists_outcome a.first_index (parts a.lengths.now a.lists.now)) ≡ Accepted c.in-Accepted.n
+told : (c : In-Accepted) → let a = c.args in checked_lists (lists_outcome a.first_index (parts a.lengths.now a.lists.now)) ≡ Accepted c.in-Accepted.n
 told c = sym c.check_lists.ensures ∙ c.in-Accepted.is
 
 pub returns-then-wrong_chunks : goal.returns-then-wrong_chunks
@@ -45,16 +45,16 @@ check_lists-requires c =
 
 pub file_end-requires : goal.file_end-requires
 file_end-requires c =
-    let r = right (goal.at.file_end-requires c).Else-wrong_chunks in (omega (arith, r.indexes, r.some), omega (arith, r.few, accepted_count _ _ _ _ (told (goal.at.file_end-requires c).In-Accepted-2)))
+    let r = right (goal.at.file_end-requires c).Else-wrong_chunks in (omega (arith, r.indexes, r.some), omega (arith, r.few, accepted_count _ _ _ _ (told (goal.at.file_end-requires c).In-Accepted)))
 
 pub cut-read-requires : goal.cut-read-requires
 unfolding file_end chunk
 cut-read-requires c =
-    let r = right (goal.at.cut-read-requires c).Else-wrong_chunks in omega (arith, c.file_end.ensures, r.few, accepted_count _ _ _ _ (told (goal.at.cut-read-requires c).In-Accepted-2))
+    let r = right (goal.at.cut-read-requires c).Else-wrong_chunks in omega (arith, c.file_end.ensures, r.few, accepted_count _ _ _ _ (told (goal.at.cut-read-requires c).In-Accepted))
 
 pub returns-then-read : goal.returns-then-read
 returns-then-read c =
-    judge_empty _ _ _ _ _ _ _ _ (not_wrong (goal.at.returns-then-read c).Else-wrong_chunks) (allowed (goal.at.returns-then-read c).Then-block_allowed) _ (told (goal.at.returns-then-read c).In-Accepted-2) _ _ (rw c.file_end.ensures at c.cut-read.ensures) c.if-read.true _ c.of_empty.ensures
+    judge_empty _ _ _ _ _ _ _ _ (not_wrong (goal.at.returns-then-read c).Else-wrong_chunks) (allowed (goal.at.returns-then-read c).Then-block_allowed) _ (told (goal.at.returns-then-read c).In-Accepted) _ _ (rw c.file_end.ensures at c.cut-read.ensures) c.if-read.true _ c.of_empty.ensures
 
 pub overflow_cast-first_index : goal.overflow_cast-first_index
 overflow_cast-first_index c =
@@ -68,9 +68,9 @@ unfolding file_end
 of_read-requires c =
     let r = right (goal.at.of_read-requires c).Else-wrong_chunks in
     let u = c.cut-read.ensures in
-    let m = accepted_count _ _ _ _ (told (goal.at.of_read-requires c).In-Accepted-2) in
+    let m = accepted_count _ _ _ _ (told (goal.at.of_read-requires c).In-Accepted) in
     let within : c.cut-read.result.from + (c.cut-read.result.end - c.cut-read.result.from) ≤ length c.args.lengths.now * chunk = rw (← m) (omega (arith, u.within, u.order, c.file_end.ensures)) in
-    record { lengths_value = (r.adds, lists_accepted _ _ _ (said_accepted _ _ (told (goal.at.of_read-requires c).In-Accepted-2))); lengths_len_bound = (r.few, within, allowed (goal.at.of_read-requires c).Then-block_allowed) }
+    record { lengths_value = (r.adds, lists_accepted _ _ _ (said_accepted _ _ (told (goal.at.of_read-requires c).In-Accepted))); lengths_len_bound = (r.few, within, allowed (goal.at.of_read-requires c).Then-block_allowed) }
 
 pub returns-in-Refused : goal.returns-in-Refused
 returns-in-Refused c =
@@ -78,7 +78,7 @@ returns-in-Refused c =
 
 pub returns-else-read : goal.returns-else-read
 returns-else-read c =
-    judge_read _ _ _ _ _ _ _ _ (not_wrong (goal.at.returns-else-read c).Else-wrong_chunks) (allowed (goal.at.returns-else-read c).Then-block_allowed) _ (told (goal.at.returns-else-read c).In-Accepted-2) _ _ (rw c.file_end.ensures at c.cut-read.ensures) c.if-read.false _ c.of_read.ensures
+    judge_read _ _ _ _ _ _ _ _ (not_wrong (goal.at.returns-else-read c).Else-wrong_chunks) (allowed (goal.at.returns-else-read c).Then-block_allowed) _ (told (goal.at.returns-else-read c).In-Accepted) _ _ (rw c.file_end.ensures at c.cut-read.ensures) c.if-read.false _ c.of_read.ensures
 
 pub returns-else-block_allowed : goal.returns-else-block_allowed
 returns-else-block_allowed c =

@@ -25,8 +25,7 @@ put_four-requires c =
 pub loop-rest-preserved : goal.loop-rest-preserved
 loop-rest-preserved c =
     let w = fours_width c.loop-rest.rest (omega arith) in
-    let e : c.loop-rest.rest - c.loop-rest.rest / 10000 * 10000 ≡ c.loop-rest.rest % 10000 = omega arith in
-    (
+    let e : c.loop-rest.rest - c.loop-rest.rest / 10000 * 10000 ≡ c.loop-rest.rest % 10000 = omega arith in (
       omega (arith, w, c.loop-rest.invariant.0),
       c.put_four.auto.out ∙ c.loop-rest.invariant.1,
       omega (arith, c.put_four.auto.out, c.loop-rest.invariant.2),

@@ -48,8 +48,7 @@ loop-at-smaller c =
 pub loop-at-preserved : goal.loop-at-preserved
 loop-at-preserved c =
     let i = c.loop-at.invariant in
-    let f = c.following-segment.ensures in
-    (
+    let f = c.following-segment.ensures in (
       lies_on _ _ _ _ _ i.2 _ c.same_at.ensures c.if-same_at.true _ _ c.same_block_to-at.ensures.unbroken.0 i.0,
       following_holds _ _ _ _ _ c.requires.ready.resolved _ _ _ _ i.1 c.same_block_to-at.ensures.unbroken.0.some c.same_block_to-at.ensures.unbroken.1 (omega (arith, c.if-end-at.false, c.requires.q_lt_end.1)) f.0 f.1,
       omega (arith, i.2, c.same_block_to-at.ensures.unbroken.0.some),

@@ -17,7 +17,7 @@ use Rattle.files.proofs.Laws.Chunks.{Right, right_chunks}
 use Rattle.files.proofs.Laws.Calls.{chunks_21, chunks_8, chunks_refused, accepted_count}
 use Rattle.stepping.proofs.Laws.File.{next_file_refused, next_file_finished, next_file_given}
 use Rattle.stepping.proofs.Place.next_file_piece.Goals as goal
-use Rattle.stepping.proofs.Place.next_file_piece.Goals.{Else-wrong_chunks, In-Accepted-2, Then-block_allowed}
+use Rattle.stepping.proofs.Place.next_file_piece.Goals.{Else-wrong_chunks, In-Accepted, Then-block_allowed}
 
 -- the chunks are not wrong
 not_wrong : (c : Else-wrong_chunks) → let a = c.args in wrong_chunks a.lengths.now (length a.lists.now) a.first_index ≡ false
@@ -31,7 +31,7 @@ allowed : (c : Then-block_allowed) → block_allowed c.args.block_size ≡ true
 allowed c = sym c.block_allowed.ensures ∙ c.if-block_allowed.true
 
 -- all lists are accepted
-told : (c : In-Accepted-2) → let a = c.args in checked_lists (lists_outcome a.first_index (parts a.lengths.now a.lists.now)) ≡ Accepted c.in-Accepted.n
+told : (c : In-Accepted) → let a = c.args in checked_lists (lists_outcome a.first_index (parts a.lengths.now a.lists.now)) ≡ Accepted c.in-Accepted.n
 told c = sym c.check_lists.ensures ∙ c.in-Accepted.is
 
 pub returns-then-wrong_chunks : goal.returns-then-wrong_chunks
@@ -46,20 +46,20 @@ check_lists-requires c =
 pub file_end-requires : goal.file_end-requires
 file_end-requires c =
     let r = right (goal.at.file_end-requires c).Else-wrong_chunks in
-    (omega (arith, r.indexes, r.some), omega (arith, r.few, accepted_count _ _ _ _ (told (goal.at.file_end-requires c).In-Accepted-2)))
+    (omega (arith, r.indexes, r.some), omega (arith, r.few, accepted_count _ _ _ _ (told (goal.at.file_end-requires c).In-Accepted)))
 
 pub cut-read-requires : goal.cut-read-requires
 unfolding file_end chunk
 cut-read-requires c =
     let r = right (goal.at.cut-read-requires c).Else-wrong_chunks in
-    omega (arith, c.file_end.ensures, r.few, accepted_count _ _ _ _ (told (goal.at.cut-read-requires c).In-Accepted-2))
+    omega (arith, c.file_end.ensures, r.few, accepted_count _ _ _ _ (told (goal.at.cut-read-requires c).In-Accepted))
 
 pub bytes_of-requires : goal.bytes_of-requires
 bytes_of-requires c = c.cut-read.ensures.order
 
 pub returns-then-bytes_of-at : goal.returns-then-bytes_of-at
 returns-then-bytes_of-at c =
-    next_file_finished _ _ _ _ _ _ _ _ (not_wrong (goal.at.returns-then-bytes_of-at c).Else-wrong_chunks) (allowed (goal.at.returns-then-bytes_of-at c).Then-block_allowed) _ (told (goal.at.returns-then-bytes_of-at c).In-Accepted-2) _ _ (rw c.file_end.ensures at c.cut-read.ensures) (omega (arith, c.if-bytes_of-at.true, c.bytes_of.ensures))
+    next_file_finished _ _ _ _ _ _ _ _ (not_wrong (goal.at.returns-then-bytes_of-at c).Else-wrong_chunks) (allowed (goal.at.returns-then-bytes_of-at c).Then-block_allowed) _ (told (goal.at.returns-then-bytes_of-at c).In-Accepted) _ _ (rw c.file_end.ensures at c.cut-read.ensures) (omega (arith, c.if-bytes_of-at.true, c.bytes_of.ensures))
 
 pub overflow_cast-first_index : goal.overflow_cast-first_index
 overflow_cast-first_index c =
@@ -74,9 +74,9 @@ unfolding file_end
 piece_in-piece-requires c =
     let r = right (goal.at.piece_in-piece-requires c).Else-wrong_chunks in
     let u = c.cut-read.ensures in
-    let m = accepted_count _ _ _ _ (told (goal.at.piece_in-piece-requires c).In-Accepted-2) in
+    let m = accepted_count _ _ _ _ (told (goal.at.piece_in-piece-requires c).In-Accepted) in
     let within : c.cut-read.result.end ≤ length c.args.lengths.now * chunk = rw (← m) (omega (arith, u.within, c.file_end.ensures)) in
-    record { lengths_value = (r.adds, lists_accepted _ _ _ (said_accepted _ _ (told (goal.at.piece_in-piece-requires c).In-Accepted-2))); lengths_len_bound = (r.few, r.indexes, allowed (goal.at.piece_in-piece-requires c).Then-block_allowed); p_lt_end = (omega (arith, c.if-bytes_of-at.false, c.bytes_of.ensures, u.order), within) }
+    record { lengths_value = (r.adds, lists_accepted _ _ _ (said_accepted _ _ (told (goal.at.piece_in-piece-requires c).In-Accepted))); lengths_len_bound = (r.few, r.indexes, allowed (goal.at.piece_in-piece-requires c).Then-block_allowed); p_lt_end = (omega (arith, c.if-bytes_of-at.false, c.bytes_of.ensures, u.order), within) }
 
 pub behind-requires : goal.behind-requires
 behind-requires c = omega (arith, c.if-bytes_of-at.false, c.bytes_of.ensures)
@@ -87,7 +87,7 @@ returns-in-Refused c =
 
 pub returns-else-bytes_of-at : goal.returns-else-bytes_of-at
 returns-else-bytes_of-at c =
-    next_file_given _ _ _ _ _ _ _ _ (not_wrong (goal.at.returns-else-bytes_of-at c).Else-wrong_chunks) (allowed (goal.at.returns-else-bytes_of-at c).Then-block_allowed) _ (told (goal.at.returns-else-bytes_of-at c).In-Accepted-2) _ _ (rw c.file_end.ensures at c.cut-read.ensures) (omega (arith, c.if-bytes_of-at.false, c.bytes_of.ensures)) _ c.piece_in-piece.ensures _ c.behind.ensures
+    next_file_given _ _ _ _ _ _ _ _ (not_wrong (goal.at.returns-else-bytes_of-at c).Else-wrong_chunks) (allowed (goal.at.returns-else-bytes_of-at c).Then-block_allowed) _ (told (goal.at.returns-else-bytes_of-at c).In-Accepted) _ _ (rw c.file_end.ensures at c.cut-read.ensures) (omega (arith, c.if-bytes_of-at.false, c.bytes_of.ensures)) _ c.piece_in-piece.ensures _ c.behind.ensures
 
 pub returns-else-block_allowed : goal.returns-else-block_allowed
 returns-else-block_allowed c =
