@@ -24,8 +24,8 @@ BEGIN {
 }
 
 # A definition by its signature, its clauses and the lines that go on with them. One that gives rows is a table, over whatever type of refusal; that of several
-# lists (`listsRows`) counts with the rows of one.
-/^(unfoldable |abbrev )?pub [A-Za-z]+ : / {
+# lists (`lists_rows`) counts with the rows of one.
+/^(unfoldable |abbrev )?pub [A-Za-z_]+ : / {
   begin(/^pub/ ? $2 : $3)
   sub(/.*( :|→) /, "")
   if (name != "row" && /^(List )?\(?Row(Of [A-Z][A-Za-z]+)?\)?$|^Outcome(Of [A-Z][A-Za-z]+)? /) counts[key] = 1
@@ -47,7 +47,7 @@ function begin(new) {
 
 # What follows the test of a row, in brackets or not.
 function after_test(text,    depth, i) {
-  if (text !~ /^ *\(/) { sub(/^ *[A-Za-z]+/, "", text); return text }
+  if (text !~ /^ *\(/) { sub(/^ *[A-Za-z_.]+/, "", text); return text }
   for (i = 1; i <= length(text); i++) {
     if (substr(text, i, 1) == "(") depth++
     if (substr(text, i, 1) == ")" && --depth == 0) return substr(text, i + 1)
@@ -61,13 +61,13 @@ function rows(key,    file, text, word, line) {
   file = key
   sub(/ .*/, "", file)
   text = body[key]
-  while (match(text, /[A-Za-z.]+/)) {
+  while (match(text, /[A-Za-z_.]+/)) {
     word = substr(text, RSTART, RLENGTH)
     text = substr(text, RSTART + RLENGTH)
     sub(/.*\./, "", word)
     if (word == "row" || word == "refusal") {
       if (word == "row") text = after_test(text)
-      match(text, /[A-Za-z.]+/)
+      match(text, /[A-Za-z_.]+/)
       given = substr(text, RSTART, RLENGTH)
       text = substr(text, RSTART + RLENGTH)
       sub(/.*\./, "", given)

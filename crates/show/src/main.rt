@@ -3,10 +3,12 @@
 
 ghost use Rattle.std.specs.Prelude.{length, ◌≡◌};
 ghost use Rattle.listing.specs.Calls.{text_room};
-ghost use Rattle.show.specs.Inner.{Within};
+ghost use Rattle.listing.specs.Listing.{file_limit};
+ghost use Rattle.show.specs.Inner.{Within, Holds};
 
-use libc::{STDERR_FILENO, STDOUT_FILENO};
 use outcomes::Answer;
+use std::fs::File;
+use std::io::Read;
 
 // What reading a file gave: how many bytes it has, that it has more than the buffer holds, or that it could not be read.
 #[derive(Clone, Copy)]
@@ -17,30 +19,34 @@ pub enum Input {
 }
 
 // Reads a whole file into a buffer, and asks for one byte more once the buffer is full.
-fn read_file(fd: i32, buf: &mut [u8]) -> Input
-    ensures { Within (length buf.new) result }
+fn read_file<R: Read>(file: &mut R, buf: &mut [u8]) -> Input
+    ensures within { Within (length buf.new) result }
+    ensures bytes { Holds (R.remaining file.old) buf.new result }
 {
     let mut done = 0;
     while done < buf.len() {
-        let got = libc::read(fd, &mut buf[done..]);
-        if got < 0 {
-            return Input::Failed;
-        }
-        let n = io::count(got, &buf[done..]);
+        let n = match file.read(&mut buf[done..]) {
+            Ok(n) => n,
+            Err(_) => return Input::Failed,
+        };
         if n == 0 {
             return Input::Whole(done);
         }
         done += n;
     }
     let mut more = [0u8; 1];
-    let got = libc::read(fd, &mut more);
-    if got < 0 {
-        return Input::Failed;
+    match file.read(&mut more) {
+        Ok(0) => Input::Whole(done),
+        Ok(_) => Input::Longer,
+        Err(_) => Input::Failed,
     }
-    if got == 0 {
-        return Input::Whole(done);
-    }
-    Input::Longer
+}
+
+// A buffer for a list.
+fn list_buffer() -> [u8; listing::FILE]
+    ensures { file_limit ≡ length result }
+{
+    [0; listing::FILE]
 }
 
 // A buffer for a listing. The `ensures` gives only the length, which lending the array as a slice needs.
@@ -50,36 +56,34 @@ fn text_buffer() -> [u8; listing::TEXT]
     [0; listing::TEXT]
 }
 
-// Writes a text to standard output. A program has no exit status, so where not all of it could be written, a line on standard error says so.
-fn put(text: &[u8]) {
-    if io::write_all(STDOUT_FILENO, text) {
-        return;
+// Writes a text to standard output. The program ends with status 0, so where not all of it could be written, a line on standard error says so.
+fn put(rt: &(impl Print + Eprint), text: &[u8]) {
+    if rt.write_all(text).is_err() {
+        let _ = rt.eprintln("not all of the view could be written");
     }
-    io::write_all(STDERR_FILENO, b"not all of the view could be written\n");
 }
 
 // Prints the listing of a list, by way of a buffer for its text.
-fn print(list: &[u8], longer: bool, text: &mut [u8]) {
+fn print(rt: &(impl Print + Eprint), list: &[u8], longer: bool, text: &mut [u8]) {
     if let Answer::Wrote(n) = listing::text(list, longer, text) {
         if n <= text.len() {
-            put(&text[..n]);
+            put(rt, &text[..n]);
         }
     }
 }
 
-fn main() {
-    let fd = os::open_read(b"list.bin");
-    if fd < 0 {
-        put(b"no list\n");
-        return;
-    }
-    let mut list = io::large_buffer();
-    let input = read_file(fd, &mut list);
-    libc::close(fd);
+fn main(rt: HostRuntime) {
+    let mut file = match File::open(&rt, "list.bin") {
+        Ok(file) => file,
+        Err(_) => return put(&rt, b"no list\n"),
+    };
+    let mut list = list_buffer();
+    let input = read_file(&mut file, &mut list);
+    drop(file);
     let mut text = text_buffer();
     match input {
-        Input::Whole(n) => print(&list[..n], false, &mut text),
-        Input::Longer => print(&list, true, &mut text),
-        Input::Failed => put(b"no list\n"),
+        Input::Whole(n) => print(&rt, &list[..n], false, &mut text),
+        Input::Longer => print(&rt, &list, true, &mut text),
+        Input::Failed => put(&rt, b"no list\n"),
     }
 }

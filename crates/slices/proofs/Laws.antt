@@ -9,5 +9,4 @@ pub mod Sizes
 pub mod Refusals
 pub mod Scan
 pub mod Sources
-pub mod Tags
 pub mod Tree

@@ -1,5 +1,5 @@
 -- `blocks::bits_of` meets its contract. The invariant: 2 ^ bits is not above the block size. Assumes nothing.
-use Prim.Native.Nat.{◌-◌, ◌^◌, ◌*◌, ◌%◌}
+use Prim.Native.Nat.{◌^◌, ◌*◌, ◌%◌}
 use native.Mathlib.Omega.{arith}
 use native.Mathlib.Nat.{one-mul}
 use mathlib.Core.Path.{◌≡◌, ◌∙◌}

@@ -1,5 +1,4 @@
 -- `coverage::first_not_once` meets its contract. The invariant: the pieces that begin before `low` fill the places up to `cur`. Assumes nothing.
-use Prim.Native.Nat.{◌-◌}
 use mathlib.Core.Path.{refl}
 use native.Mathlib.Omega.{arith}
 use Rattle.coverage.proofs.Laws.Swept.{swept_none, swept_crowded, swept_all, swept_stop, swept_more, keys_lie}

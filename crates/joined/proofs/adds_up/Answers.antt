@@ -1,6 +1,5 @@
 -- `joined::adds_up` meets its contract. The invariant: what is left, and the lengths so far, are the bytes. Assumes nothing.
 use Rattle.std.proofs.Common.{rules}
-use Prim.Native.Nat.{◌-◌}
 use mathlib.Core.Path.{sym}
 use native.Mathlib.Omega.{arith}
 use native.Mathlib.Numerals.{add-one}

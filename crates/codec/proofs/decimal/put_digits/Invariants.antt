@@ -1,6 +1,6 @@
 -- `codec::decimal::put_digits` meets its contract. The invariant: what is left of n, put in front of what stands, gives all of n. Assumes nothing.
 use lib.ListN.{length}
-use Prim.Native.Nat.{◌+◌, ◌-◌, ◌≤◌}
+use Prim.Native.Nat.{◌+◌, ◌≤◌}
 use mathlib.Core.Path.{◌≡◌}
 use Rattle.codec.specs.Decimal.{decimal}
 use Rattle.codec.specs.Splice.{splice}

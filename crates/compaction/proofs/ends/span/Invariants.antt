@@ -1,6 +1,6 @@
 -- `compaction::ends::span` meets its contract. The invariant: `low` and `high` are those of the records from i on; of all records they tell the
 -- first and the last covered position. Assumes nothing.
-use Prim.Native.Nat.{◌-◌, ◌/◌, ◌≤◌}
+use Prim.Native.Nat.{◌/◌, ◌≤◌}
 use mathlib.Core.Path.{◌≡◌}
 use lib.ListN.{length}
 use Rattle.slices.specs.Limits.{record_size}

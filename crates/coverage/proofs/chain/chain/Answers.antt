@@ -1,5 +1,5 @@
 -- `coverage::chain::chain` meets its contract. The invariant: the first k keys in order fill the places up to q. Assumes nothing.
-use Prim.Native.Nat.{◌-◌, ◌<◌}
+use Prim.Native.Nat.{◌<◌}
 use native.Mathlib.Omega.{arith}
 use Rattle.coverage.proofs.Laws.Chained.{walked_none, walked_more, chained_end, chained_twice, chained_gap}
 use Rattle.coverage.proofs.chain.chain.Goals as goal

@@ -1,5 +1,4 @@
 -- `coverage::keys::collect` meets its contract. The invariant: the keys are those of the first i pieces that begin in the window. Assumes nothing.
-use Prim.Native.Nat.{◌-◌}
 use mathlib.Core.Path.{refl}
 use native.Mathlib.Omega.{arith}
 use Rattle.coverage.proofs.Laws.Collected.{collected_none}

@@ -1,6 +1,5 @@
 -- `coverage::windows::keep` meets its contract. The invariant: of the first i keys those that begin before `high` are kept, and the others stand as they
 -- stood. Assumes nothing.
-use Prim.Native.Nat.{◌-◌}
 use native.Mathlib.Omega.{arith}
 use mathlib.Core.Path.{refl}
 use lib.ListN.{length-set}

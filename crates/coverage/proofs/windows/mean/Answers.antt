@@ -1,5 +1,4 @@
 -- `coverage::windows::mean` is safe and ends. The invariant: i places add up to less than i * 2 ^ 32. Assumes nothing.
-use Prim.Native.Nat.{◌-◌}
 use native.Mathlib.Omega.{arith}
 use Rattle.coverage.proofs.Laws.Kept.{start_small, sum_small}
 use Rattle.coverage.proofs.windows.mean.Goals as goal

@@ -1,9 +1,6 @@
 -- `history::beginning::begins` meets its contract. The invariant: what was compared is the same, so the rest decides. Assumes nothing.
-use Prim.Native.Nat.{◌-◌}
 use mathlib.Core.Path.{sym, ◌∙◌}
-use mathlib.Core.Bool.{true}
 use native.Mathlib.Omega.{arith}
-use borrow.Author.Tests.{not-true, not-false}
 use lib.ListN.{drop, length-take, length-drop}
 use Rattle.history.specs.Inner.{UpTo}
 use Rattle.history.proofs.Laws.Begins.{begins_longer, begins_end, part_up_to, up_to_more, up_to_differs}

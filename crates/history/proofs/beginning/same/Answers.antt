@@ -1,5 +1,4 @@
 -- `history::beginning::same` meets its contract. The invariant: what was compared did not differ, and the rest begins the rest. Assumes nothing.
-use Prim.Native.Nat.{◌-◌}
 use mathlib.Core.Path.{refl}
 use native.Mathlib.Omega.{arith}
 use Rattle.history.proofs.Laws.Begins.{compared_more, compared_all}

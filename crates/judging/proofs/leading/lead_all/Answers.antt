@@ -1,6 +1,5 @@
 -- `judging::leading::lead_all` meets its contract. The invariant: the lists before k are gone by, and the rooms are as long as they were. Assumes nothing.
 use Rattle.std.proofs.Common.{rules}
-use Prim.Native.Nat.{◌-◌}
 use native.Mathlib.Omega.{arith}
 use mathlib.Core.Path.{refl}
 use Rattle.joined.proofs.Laws.Lists.{gone_within}

@@ -1,5 +1,4 @@
 -- `judging::leading::lead_on` meets its contract. The invariant: the pieces before `number` stand in order up to `place`. Assumes nothing.
-use Prim.Native.Nat.{◌-◌}
 use native.Mathlib.Omega.{arith}
 use mathlib.Core.Path.{refl}
 use Rattle.slices.specs.Limits.{chunk}

@@ -1,6 +1,5 @@
 -- `judging::places::meet` meets its contract. The invariant: the positions before `at` lie where the piece says, and the segment holds `at`.
 -- Assumes nothing.
-use Prim.Native.Nat.{◌-◌}
 use native.Mathlib.Omega.{arith}
 use mathlib.Core.Bool.{true≢false, false≢true}
 use Rattle.resolve.proofs.Laws.Resolved.{resolved_at}

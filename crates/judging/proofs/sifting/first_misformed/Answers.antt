@@ -1,5 +1,4 @@
 -- `judging::sifting::first_misformed` meets its contract. The invariant: the pieces before i are formed. Assumes nothing.
-use Prim.Native.Nat.{◌-◌}
 use native.Mathlib.Omega.{arith}
 use mathlib.Core.Path.{◌∙◌}
 use Rattle.judging.proofs.Laws.Forms.{form_told, formed_more}

@@ -1,5 +1,4 @@
 -- `judging::sifting::sift_on` meets its contract. The invariant: the pieces of chunk k before i lie where they say. Assumes nothing.
-use Prim.Native.Nat.{◌-◌}
 use native.Mathlib.Omega.{arith}
 use mathlib.Core.Path.{refl}
 use Rattle.slices.specs.Limits.{chunk}

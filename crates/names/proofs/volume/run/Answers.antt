@@ -4,7 +4,6 @@ use Rattle.names.proofs.Laws.Volume.{run_stops, run_goes}
 use Rattle.names.specs.Volume.{volume_run}
 use native.Mathlib.Numerals.{add-one}
 use native.Mathlib.Omega.{arith}
-use Prim.Native.Nat.{◌-◌}
 use mathlib.Core.Path.{sym, ◌∙◌}
 use Rattle.names.proofs.volume.run.Goals as goal
 

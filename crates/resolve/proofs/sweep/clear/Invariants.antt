@@ -1,5 +1,4 @@
 -- `resolve::sweep::clear` meets its contract. The invariant: `rest` is left of the word. It is the measure, too. Assumes nothing.
-use Prim.Native.Nat.{◌-◌}
 use Rattle.resolve.proofs.Laws.Sweep.{Clearing}
 use Rattle.resolve.proofs.sweep.clear.Given as goal
 

@@ -1,5 +1,4 @@
 -- `resolve::sweep::settle` meets its contract. The invariant: what it is to have done. The measure: the word of the sums. Assumes nothing.
-use Prim.Native.Nat.{◌-◌}
 use Rattle.resolve.specs.Set.{Summed}
 use Rattle.resolve.specs.Sweep.{Settled}
 use Rattle.resolve.proofs.sweep.settle.Given as goal

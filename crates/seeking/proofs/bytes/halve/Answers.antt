@@ -1,5 +1,4 @@
 -- `seeking::bytes::halve` meets its contract. The invariant: what is left of the search ends where the whole does. Assumes nothing.
-use Prim.Native.Nat.{◌-◌}
 use native.Mathlib.Omega.{arith}
 use Rattle.slices.specs.Record.{count}
 use Rattle.seeking.proofs.Laws.Halve.{middle_in, halving_start, halving_lower, halving_upper, halving_end}

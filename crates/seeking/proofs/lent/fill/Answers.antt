@@ -1,9 +1,7 @@
 -- `seeking::lent::fill` meets its contract. Assumes nothing.
 use native.Mathlib.Omega.{arith}
-use mathlib.Core.Path.{◌≡◌, sym, ap, ◌∙◌}
-use lib.ListN.{length, set}
-use Rattle.slices.specs.Record.{count, record_at}
-use Rattle.seeking.specs.Inner.{filled}
+use mathlib.Core.Path.{sym}
+use Rattle.slices.specs.Record.{count}
 use Rattle.seeking.proofs.Laws.Fill.{filled_start, filled_more}
 use Rattle.seeking.proofs.lent.fill.Goals as goal
 

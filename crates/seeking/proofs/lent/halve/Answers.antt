@@ -1,8 +1,7 @@
 -- `seeking::lent::halve` meets its contract. Assumes nothing.
-use native.Mathlib.Omega.{arith}
 use mathlib.Core.Path.{refl}
 use Rattle.seeking.specs.Seek.{middle}
-use Rattle.seeking.proofs.Laws.Halve.{middle_in, halving_start, halving_lower, halving_upper, halving_end}
+use Rattle.seeking.proofs.Laws.Halve.{halving_start, halving_lower, halving_upper, halving_end}
 use Rattle.seeking.proofs.lent.halve.Goals as goal
 
 pub loop-low-init : goal.loop-low-init

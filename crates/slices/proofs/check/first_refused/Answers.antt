@@ -1,5 +1,4 @@
 -- `slices::check::first_refused` meets its contract. The invariant: the records before i pass, and while the ids rise, they agree. Assumes nothing.
-use Prim.Native.Nat.{◌-◌}
 use native.Mathlib.Omega.{arith}
 use mathlib.Core.Path.{sym, ap, ◌∙◌}
 use Rattle.slices.specs.Record.{count}

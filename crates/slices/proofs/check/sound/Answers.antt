@@ -1,5 +1,5 @@
 -- `slices::check::sound` meets its contract. The invariant: the records before i are sound. Assumes nothing.
-use Prim.Native.Nat.{◌-◌, zero-le}
+use Prim.Native.Nat.{zero-le}
 use native.Mathlib.Omega.{arith}
 use mathlib.Core.Path.{sym, ap, ◌∙◌}
 use Rattle.slices.specs.Record.{count}

@@ -1,6 +1,6 @@
 -- `slices::ids::stands` meets its contract. The invariant: the id stands in the list if it stands in the records from i on.
 -- Assumes nothing.
-use Prim.Native.Nat.{◌-◌, zero-le}
+use Prim.Native.Nat.{zero-le}
 use native.Mathlib.Omega.{arith}
 use mathlib.Core.Path.{sym, ap, ◌∙◌}
 use Rattle.slices.specs.Record.{count}

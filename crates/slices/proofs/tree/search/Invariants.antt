@@ -1,5 +1,4 @@
 -- `slices::tree::search` meets its contract. The invariant: the search comes to the entry s with `left` of the id left. Assumes nothing.
-use Prim.Native.Nat.{◌-◌}
 use Rattle.slices.specs.Record.{record_at}
 use Rattle.slices.specs.Tree.{Way}
 use Rattle.slices.proofs.Laws.Tree.{depth}

@@ -1,6 +1,5 @@
 -- `slices::tree::search_with` meets its contract. The invariant: the tree has the first i records, and what is said of the list is said of its
 -- records from i on. Assumes nothing.
-use Prim.Native.Nat.{◌-◌}
 use mathlib.Core.Path.{refl, ap, ◌∙◌}
 use mathlib.Core.Bool.{not}
 use Rattle.slices.specs.Record.{count}

@@ -1,6 +1,6 @@
 -- `stepping::joins::run_to` meets its contract. The invariant: from p up to e the locations go on, and e is the end of the segment, or of a block in it.
 -- Assumes nothing.
-use Prim.Native.Nat.{◌+◌, ◌-◌}
+use Prim.Native.Nat.{◌+◌}
 use native.Mathlib.Omega.{arith}
 use mathlib.Core.Path.{refl}
 use Rattle.resolve.specs.Resolved.{Holds}

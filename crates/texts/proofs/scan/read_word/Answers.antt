@@ -3,7 +3,6 @@ use Rattle.std.proofs.Common.{rules}
 use lib.ListN.{drop_of_length-le}
 use Rattle.texts.proofs.Laws.Steps.{word_past, word_differs, word_same}
 use mathlib.Core.Path.{sym, ◌∙◌}
-use Prim.Native.Nat.{◌-◌}
 use native.Mathlib.Numerals.{add-one}
 use Rattle.texts.specs.Parts.{word_at}
 use Rattle.texts.proofs.scan.read_word.Goals as goal

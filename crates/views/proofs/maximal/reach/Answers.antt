@@ -1,6 +1,6 @@
 -- `views::maximal::reach` meets its contract. The invariant: from p up to e the cover goes on, and e is the end of a segment, or `end`.
 -- Assumes nothing.
-use Prim.Native.Nat.{◌+◌, ◌-◌}
+use Prim.Native.Nat.{◌+◌}
 use native.Mathlib.Omega.{arith}
 use mathlib.Core.Path.{refl}
 use Rattle.resolve.specs.Resolved.{Holds}

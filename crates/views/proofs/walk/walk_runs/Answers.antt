@@ -1,6 +1,6 @@
 -- `views::walk::walk_runs` meets its contract. The invariant: the runs before p are written, or counted.
 -- Assumes nothing.
-use Prim.Native.Nat.{◌+◌, ◌-◌, zero-le}
+use Prim.Native.Nat.{◌+◌, zero-le}
 use native.Mathlib.Omega.{arith}
 use native.Mathlib.Nat.{zero-add}
 use mathlib.Core.Path.{refl, ◌∙◌}
