@@ -1,5 +1,5 @@
 -- What the call `compact` is to do: its refusals, in the order of paper 01, its two answers and its two buffers. Assumes nothing.
-use Rattle.std.specs.Prelude.{ℕ, Bool, ◌||◌, List, [], ◌∷◌, ◌++◌, ltb, eqb, length}
+use Rattle.std.specs.Prelude.{ℕ, Bool, ◌||◌, List, [], ◌∷◌, ◌++◌, ltb, eqb, length, Result, Ok, Err}
 use Rattle.slices.specs.Record.{records}
 use Rattle.slices.specs.Ids.{stands}
 use Rattle.outcomes.specs.Numbers as number
@@ -11,7 +11,7 @@ use Rattle.plans.specs.Calls.{past_index}
 use Rattle.compaction.specs.Compaction.{plan_bytes, new_list_bytes}
 use Rattle.slices.specs.declared.Record.{Record}
 use Rattle.compaction.specs.declared.Compacted.{Compacted}
-use Rattle.compaction.specs.declared.Compacted.TheVariants.{Wrote, Refused}
+use Rattle.outcomes.specs.declared.Refusal.{Refusal}
 
 -- ---- the tests
 
@@ -63,12 +63,15 @@ compact_outcome bs index B k id plan_room list_room = first_of (compact_rows bs 
 -- ---- what it returns and leaves
 
 -- it says how many bytes of each answer it wrote
-abbrev pub how_many_of_each : Both → Compacted
-how_many_of_each b = Wrote (length b.plan) (length b.list)
+abbrev pub wrote : ℕ → ℕ → Result Compacted Refusal
+wrote m n = Ok (record { plan = m; list = n })
 
-abbrev pub compact_answer : Outcome Both → Compacted
-compact_answer o = answer_of Refused how_many_of_each o
+abbrev pub how_many_of_each : Both → Result Compacted Refusal
+how_many_of_each b = wrote (length b.plan) (length b.list)
+
+abbrev pub compact_answer : Outcome Both → Result Compacted Refusal
+compact_answer o = answer_of Err how_many_of_each o
 
 -- a call with the outcome o, lent the buffers `plan` and `list`, answers a and leaves `plan'` and `list'`
-abbrev pub Compacts : Outcome Both → (plan list : List ℕ) → Compacted → (plan' list' : List ℕ) → Type 0
-Compacts o plan list a plan' list' = Replies Refused how_many_of_each o (lent (λ (b : Both). b.plan) plan plan' ∷ lent (λ (b : Both). b.list) list list' ∷ []) a
+abbrev pub Compacts : Outcome Both → (plan list : List ℕ) → Result Compacted Refusal → (plan' list' : List ℕ) → Type 0
+Compacts o plan list a plan' list' = Replies Err how_many_of_each o (lent (λ (b : Both). b.plan) plan plan' ∷ lent (λ (b : Both). b.list) list list' ∷ []) a

@@ -19,19 +19,19 @@ ghost use Rattle.slices.specs.Record.{count, records};
 ghost use Rattle.compaction.specs.Calls.{both, delivered_both, later_rows, compact_outcome, Compacts};
 
 use blocks::block_allowed;
-use outcomes::{Answer, Refusal, refusals};
+use outcomes::{Refusal, refusals};
 use plans::rooms;
-use slices::{Checked, MAX_INDEX, RECORD, check};
+use slices::{MAX_INDEX, RECORD, check};
 
-// What the call answers: the numbers of bytes of the plan and of the new list, or the refusal.
+// What was written: the numbers of bytes of the plan and of the new list.
 #[derive(Clone, Copy)]
-pub enum Compacted {
-    Wrote { plan: usize, list: usize },
-    Refused(Refusal),
+pub struct Compacted {
+    pub plan: usize,
+    pub list: usize,
 }
 
 // Answers with the pieces of the positions from `from` up to `end` of a list, each with the index of its chunk.
-fn planned(list: &[u8], from: u32, end: u32, block: u32, index: u32, plan: &mut [u8]) -> Answer
+fn planned(list: &[u8], from: u32, end: u32, block: u32, index: u32, plan: &mut [u8]) -> Result<usize, Refusal>
     requires all { All Passes (records list.now) }
     requires list_bound { (count list.now ≤ max_records) × (from ≤ end) × (end ≤ chunk) }
     requires block_value { block_allowed block ≡ true }
@@ -53,7 +53,7 @@ fn compact_first(
     new_id: u64,
     plan: &mut [u8],
     new_list: &mut [u8],
-) -> Compacted
+) -> Result<Compacted, Refusal>
     requires accepts { Accepts list.now }
     requires block_value { block_allowed block ≡ true }
     requires k_bound { k ≤ count list.now }
@@ -66,18 +66,14 @@ fn compact_first(
     let end = span.end;
     let list_bytes = new_list::stand_in_bytes(from, end, new_id) + (list.len() - cut);
     if new_list.len() < list_bytes {
-        return Compacted::Refused(refusals::refusal(refusals::SHORT_BUFFER));
+        return Err(refusals::refusal(refusals::SHORT_BUFFER));
     }
-    match planned(firsts, from, end, block, index, plan) {
-        Answer::Refused(refusal) => Compacted::Refused(refusal),
-        Answer::Wrote(plan_bytes) => {
-            new_list::write_list(list, cut, from, end, new_id, new_list);
-            Compacted::Wrote {
-                plan: plan_bytes,
-                list: list_bytes,
-            }
-        }
-    }
+    let plan_bytes = planned(firsts, from, end, block, index, plan)?;
+    new_list::write_list(list, cut, from, end, new_id, new_list);
+    Ok(Compacted {
+        plan: plan_bytes,
+        list: list_bytes,
+    })
 }
 
 // Compacts an accepted list.
@@ -89,16 +85,16 @@ fn compact_accepted(
     new_id: u64,
     plan: &mut [u8],
     new_list: &mut [u8],
-) -> Compacted
+) -> Result<Compacted, Refusal>
     requires accepts { Accepts list.now }
     requires block_value { block_allowed block ≡ true }
     ensures { Compacts (first_of (later_rows (records list.now) index block k new_id (length plan.old) (length new_list.old)) (done (both index block (records list.now) k new_id))) plan.old new_list.old result plan.new new_list.new }
 {
     if ((list.len() / RECORD) as u64) < k {
-        return Compacted::Refused(refusals::refusal(refusals::TOO_FEW));
+        return Err(refusals::refusal(refusals::TOO_FEW));
     }
     if ids::in_use(list, new_id) {
-        return Compacted::Refused(refusals::refusal(refusals::ID_IN_USE));
+        return Err(refusals::refusal(refusals::ID_IN_USE));
     }
     compact_first(list, index, block, k as usize, new_id, plan, new_list)
 }
@@ -113,28 +109,16 @@ pub fn compact(
     new_id: u64,
     plan: &mut [u8],
     new_list: &mut [u8],
-) -> Compacted
+) -> Result<Compacted, Refusal>
     ensures { Compacts (compact_outcome list.now index block_size k new_id (length plan.old) (length new_list.old)) plan.old new_list.old result plan.new new_list.new }
 {
     if MAX_INDEX < index {
-        return Compacted::Refused(refusals::refusal(refusals::WRONG_CHUNKS));
+        return Err(refusals::refusal(refusals::WRONG_CHUNKS));
     }
-    if block_allowed(block_size) {
-        match check::check_list(list) {
-            Checked::Refused(refusal) => Compacted::Refused(refusal),
-            Checked::Accepted(_) => {
-                compact_accepted(
-                    list,
-                    index as u32,
-                    block_size as u32,
-                    k,
-                    new_id,
-                    plan,
-                    new_list,
-                )
-            }
-        }
-    } else {
-        Compacted::Refused(refusals::refusal(refusals::BLOCK_SIZE))
+    if !block_allowed(block_size) {
+        return Err(refusals::refusal(refusals::BLOCK_SIZE));
     }
+    check::check_list(list)?;
+    let block = block_size as u32;
+    compact_accepted(list, index as u32, block, k, new_id, plan, new_list)
 }

@@ -1,6 +1,6 @@
 -- "One slice, one size" (paper 02, L8), as one claim about the calls' lists: what an accepted list is, and that what the calls write is accepted again.
 -- proofs/Laws/OneSlice.antt proves it. Assumes nothing.
-use Rattle.std.specs.Prelude.{ℕ, ◌+◌, ◌*◌, ◌/◌, ◌%◌, ◌^◌, ◌<◌, ◌≤◌, ◌≡◌, false, ◌≢◌, List, ◌++◌, length, take}
+use Rattle.std.specs.Prelude.{ℕ, ◌+◌, ◌*◌, ◌/◌, ◌%◌, ◌^◌, ◌<◌, ◌≤◌, ◌≡◌, false, ◌≢◌, List, ◌++◌, length, take, Ok}
 use Rattle.codec.specs.All.{Bytes}
 use Rattle.outcomes.specs.Answers.{Answers}
 use Rattle.slices.specs.Limits.{record_size, chunk}
@@ -11,11 +11,9 @@ use Rattle.views.specs.View.{view, tidied}
 use Rattle.views.specs.Calls.{tidy_outcome}
 use Rattle.plans.specs.Location.{location}
 use Rattle.compaction.specs.Compaction.{new_list_bytes}
-use Rattle.compaction.specs.Calls.{id_in_use, compact_outcome, Compacts}
+use Rattle.compaction.specs.Calls.{wrote, id_in_use, compact_outcome, Compacts}
 use Rattle.slices.specs.declared.Record.{Record}
 use Rattle.slices.specs.declared.Source.TheVariants.{Byte}
-use Rattle.outcomes.specs.declared.Answer.TheVariants.{Wrote}
-use Rattle.compaction.specs.declared.Compacted.TheVariants as both
 
 pub record OneSlice : Type 0 where
   -- any two records of an accepted list with one id, not 0, have one size, also empty ones
@@ -25,10 +23,10 @@ pub record OneSlice : Type 0 where
   pub viewed : (rs : List Record) → OneSize rs → (l : ℕ) → l ≤ chunk → OneSize (view rs l)
   pub replaced : (xs ys zs : List Record) → OneSize (xs ++ (ys ++ zs)) → OneSize (xs ++ (tidied ys ++ zs))
   -- the tidied list that the call wrote is accepted
-  pub tidied_again : (bs : List ℕ) → Bytes bs → (before after : List ℕ) (n : ℕ) → Answers (tidy_outcome bs (length before)) before (Wrote n) after → Accepts (take n after)
+  pub tidied_again : (bs : List ℕ) → Bytes bs → (before after : List ℕ) (n : ℕ) → Answers (tidy_outcome bs (length before)) before (Ok n) after → Accepts (take n after)
   -- the new list that compaction wrote is accepted
   pub compacted_again : (bs : List ℕ) → Bytes bs → (index B k id : ℕ) → id < 2 ^ 64 → (plan list plan' list' : List ℕ) (m n : ℕ)
-      → Compacts (compact_outcome bs index B k id (length plan) (length list)) plan list (both.Wrote m n) plan' list' → Accepts (take n list')
+      → Compacts (compact_outcome bs index B k id (length plan) (length list)) plan list (wrote m n) plan' list' → Accepts (take n list')
   -- "For the calls, joined lists must be accepted together": where the old list with records appended is accepted, and the new id is new in it, the
   -- new list with them is
   pub joined : (bs ys : List ℕ) → Bytes bs → Bytes ys → length bs % record_size ≡ 0 → length ys % record_size ≡ 0 → Accepts (bs ++ ys) → (k id : ℕ) → k ≤ count bs

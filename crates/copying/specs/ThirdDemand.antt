@@ -1,6 +1,6 @@
 -- The third demand, as one claim about whole lists: "For records that pass the checks, laying later ones over earlier ones obeys its laws, for
 -- every list of them, however long." proofs/Laws/ThirdDemand.antt proves it. Assumes nothing.
-use Rattle.std.specs.Prelude.{ℕ, ◌^◌, ◌<◌, ◌≡◌, false, ◌↔◌, List, [], ◌++◌, length}
+use Rattle.std.specs.Prelude.{ℕ, ◌^◌, ◌<◌, ◌≡◌, false, ◌↔◌, List, [], ◌++◌, length, Ok}
 use Rattle.codec.specs.All.{All, Bytes}
 use Rattle.outcomes.specs.Answers.{Answers, Front}
 use Rattle.slices.specs.Limits.{chunk}
@@ -13,12 +13,10 @@ use Rattle.blocks.specs.Blocks.{block_size_bad}
 use Rattle.plans.specs.Calls.{past_index}
 use Rattle.plans.specs.Store.{Store, reads}
 use Rattle.compaction.specs.Compaction.{plan_bytes, new_list_bytes}
-use Rattle.compaction.specs.Calls.{too_few, id_in_use, compact_outcome, Compacts}
+use Rattle.compaction.specs.Calls.{wrote, too_few, id_in_use, compact_outcome, Compacts}
 use Rattle.copying.specs.Copy.{Copied, copied}
 use Rattle.slices.specs.declared.Record.{Record}
 use Rattle.slices.specs.declared.Source.{Source}
-use Rattle.outcomes.specs.declared.Answer.TheVariants.{Wrote}
-use Rattle.compaction.specs.declared.Compacted.TheVariants as both
 
 -- the lists that it holds for: any number of records, also none, that are of 24 bytes and pass refusals 3 to 6
 pub record Sound (rs : List Record) : Type 0 where
@@ -49,11 +47,11 @@ pub record ThirdDemand : Type 0 where
   -- "A list's tidied bytes are the records of its tidied list, one after the other;"
   pub tidied_records : (rs : List Record) → Sound rs → records (tidied_bytes rs) ≡ tidied rs
   -- "where the tidying call succeeds, they are the bytes it wrote, as many as it counted": of a list that is sound
-  pub tidied_wrote : (bs : List ℕ) → Bytes bs → (before after : List ℕ) (n : ℕ) → Answers (tidy_outcome bs (length before)) before (Wrote n) after
+  pub tidied_wrote : (bs : List ℕ) → Bytes bs → (before after : List ℕ) (n : ℕ) → Answers (tidy_outcome bs (length before)) before (Ok n) after
       → Sound (records bs) × Front (tidied_bytes (records bs)) n after
   -- "Where the compaction call succeeds, the plan and the new list are the bytes it wrote": of a compaction that is allowed
   pub compacted_wrote : (bs : List ℕ) → Bytes bs → (index B k id : ℕ) → id < 2 ^ 64 → (plan list plan' list' : List ℕ) (m n : ℕ)
-      → Compacts (compact_outcome bs index B k id (length plan) (length list)) plan list (both.Wrote m n) plan' list'
+      → Compacts (compact_outcome bs index B k id (length plan) (length list)) plan list (wrote m n) plan' list'
       → Allowed index B (records bs) k id × Front (plan_bytes index B (records bs) k) m plan' × Front (new_list_bytes (records bs) k id) n list'
   -- "Copying turns the store before it into the store after it, by the plan": there is such a store
   pub copying : (index B : ℕ) (rs : List Record) (k id : ℕ) (before : Store) → Copied index B rs k id before (copied index B rs k id before)

@@ -15,7 +15,7 @@ use Rattle.compaction.specs.Calls.{Both, compact_answer}
 use Rattle.ezumokarin.specs.Compact.{wrote_both, plain_compacted}
 use Rattle.joined.specs.declared.ListRefusal.{ListRefusal}
 use Rattle.files.specs.Calls.{wrote_many}
-use Rattle.files.specs.declared.FileAnswer.TheVariants as file
+use Rattle.std.specs.Prelude.{Err}
 use Rattle.ezumokarin.specs.Files.{wrote_file, plain_file}
 use Rattle.history.specs.History.{history_outcome, told, part_for, added_part}
 use Rattle.history.proofs.Laws.Calls.{no_shorter}
@@ -47,7 +47,7 @@ plain_wrote (done bs) = refl
 
 -- ---- plans across a file
 
-pub plain_file_lem : (o : OutcomeOf ListRefusal (List ℕ)) → plain_file (answer_of file.Refused wrote_many o) ≡ wrote_file o
+pub plain_file_lem : (o : OutcomeOf ListRefusal (List ℕ)) → plain_file (answer_of Err wrote_many o) ≡ wrote_file o
 unfolding plain_file answer_of wrote_file
 plain_file_lem (refused r) = refl
 plain_file_lem (done bs) = refl

@@ -1,9 +1,7 @@
 -- What is new in a list, as a struct of numbers: where the part stands in the newer list. On a refusal the others are 0. Assumes nothing.
-use Rattle.std.specs.Prelude.{ℕ, ◌-◌, Bool, true, false}
+use Rattle.std.specs.Prelude.{ℕ, ◌-◌, Bool, true, false, Result, Ok, Err}
 use Rattle.outcomes.specs.Outcome.{Outcome, refused, done}
 use Rattle.outcomes.specs.declared.Refusal.{Refusal}
-use Rattle.history.specs.declared.WasRewritten.{WasRewritten}
-use Rattle.history.specs.declared.WasRewritten.TheVariants.{No, Yes, Refused}
 use Rattle.ezumokarin.specs.declared.Part.{Part}
 
 -- no part, with a refusal's number and place
@@ -21,7 +19,7 @@ part_in (done true) m n = a_part 1 0 n
 
 -- ---- the same of the call's own answer
 
-unfoldable pub plain_part : WasRewritten → ℕ → ℕ → Part
-plain_part No offset length = a_part 0 offset length
-plain_part Yes offset length = a_part 1 offset length
-plain_part (Refused r) offset length = no_part r
+unfoldable pub plain_part : Result Bool Refusal → ℕ → ℕ → Part
+plain_part (Ok false) offset length = a_part 0 offset length
+plain_part (Ok true) offset length = a_part 1 offset length
+plain_part (Err r) offset length = no_part r

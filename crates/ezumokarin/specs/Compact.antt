@@ -1,11 +1,10 @@
 -- What compaction answers, as a struct of numbers, and leaves in its two buffers. Assumes nothing.
-use Rattle.std.specs.Prelude.{ℕ, List, length}
+use Rattle.std.specs.Prelude.{ℕ, List, length, Result, Ok, Err}
 use Rattle.outcomes.specs.Outcome.{Outcome, refused, done}
 use Rattle.outcomes.specs.Answers.{left_in}
 use Rattle.compaction.specs.Calls.{Both}
 use Rattle.outcomes.specs.declared.Refusal.{Refusal}
 use Rattle.compaction.specs.declared.Compacted.{Compacted}
-use Rattle.compaction.specs.declared.Compacted.TheVariants as compacted
 use Rattle.ezumokarin.specs.declared.Compact.{Compact}
 
 -- a refusal, and two counts
@@ -29,6 +28,6 @@ list_buffer o out = left_in (λ (b : Both). b.list) o out
 
 -- ---- the same of the call's own answer
 
-unfoldable pub plain_compacted : Compacted → Compact
-plain_compacted (compacted.Wrote plan list) = two_counts plan list
-plain_compacted (compacted.Refused r) = no_counts r
+unfoldable pub plain_compacted : Result Compacted Refusal → Compact
+plain_compacted (Ok c) = two_counts c.plan c.list
+plain_compacted (Err r) = no_counts r

@@ -1,9 +1,7 @@
 -- What a plan across a file answers, as a struct of numbers, with the chunk index of the refused list. Assumes nothing.
-use Rattle.std.specs.Prelude.{ℕ, List, length}
+use Rattle.std.specs.Prelude.{ℕ, List, length, Result, Ok, Err}
 use Rattle.outcomes.specs.Outcome.{OutcomeOf, refused, done}
 use Rattle.joined.specs.declared.ListRefusal.{ListRefusal}
-use Rattle.files.specs.declared.FileAnswer.{FileAnswer}
-use Rattle.files.specs.declared.FileAnswer.TheVariants as answer
 use Rattle.ezumokarin.specs.declared.Filed.{Filed}
 
 abbrev pub filed : ℕ → Filed
@@ -20,6 +18,6 @@ wrote_file (done bs) = filed (length bs)
 
 -- ---- the same of the call's own answer
 
-unfoldable pub plain_file : FileAnswer → Filed
-plain_file (answer.Wrote n) = filed n
-plain_file (answer.Refused r) = not_filed r
+unfoldable pub plain_file : Result ℕ ListRefusal → Filed
+plain_file (Ok n) = filed n
+plain_file (Err r) = not_filed r

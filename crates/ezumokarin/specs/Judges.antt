@@ -1,6 +1,6 @@
 -- What is said of a plan, as a struct of numbers: the verdict, and the number of the wrong piece or the place of the byte. On a refusal there is no
 -- verdict, and its number is 0. Assumes nothing.
-use Rattle.std.specs.Prelude.{ℕ}
+use Rattle.std.specs.Prelude.{ℕ, Result, Ok, Err}
 use Rattle.outcomes.specs.Outcome.{OutcomeOf, refused, done}
 use Rattle.joined.specs.declared.ListRefusal.{ListRefusal}
 use Rattle.judging.specs.Judge.{Verdict, accepted, piece, byte}
@@ -35,8 +35,8 @@ judged_plan (refused r) = no_verdict r
 judged_plan (done v) = plain_verdict v
 
 -- the same of the call's own answer
-unfoldable pub plain_judged : JudgedOf → Judged
-plain_judged judged.Accepted = with_verdict accepted_verdict 0
-plain_judged (judged.WrongPiece k) = with_verdict wrong_piece_verdict k
-plain_judged (judged.WrongByte i) = with_verdict wrong_byte_verdict i
-plain_judged (judged.Refused r) = no_verdict r
+unfoldable pub plain_judged : Result JudgedOf ListRefusal → Judged
+plain_judged (Ok judged.Accepted) = with_verdict accepted_verdict 0
+plain_judged (Ok (judged.WrongPiece k)) = with_verdict wrong_piece_verdict k
+plain_judged (Ok (judged.WrongByte i)) = with_verdict wrong_byte_verdict i
+plain_judged (Err r) = no_verdict r

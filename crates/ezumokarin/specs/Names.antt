@@ -1,13 +1,11 @@
 -- What the readers of names and keys answer, as structs of numbers: refusal 0 on success; a field without meaning is 0. Assumes nothing.
-use Rattle.std.specs.Prelude.{ℕ, length}
+use Rattle.std.specs.Prelude.{ℕ, length, Result, Ok, Err}
 use Rattle.outcomes.specs.Outcome.{Outcome, refused, done}
 use Rattle.keys.specs.Keys.{Chunk as ChunkOf}
 use Rattle.names.specs.Names.{Object as ObjectOf, Full}
 use Rattle.outcomes.specs.declared.Refusal.{Refusal}
 use Rattle.names.specs.declared.ObjectName.{ObjectName}
-use Rattle.names.specs.declared.ObjectName.TheVariants as name
 use Rattle.keys.specs.declared.ChunkKey.{ChunkKey}
-use Rattle.keys.specs.declared.ChunkKey.TheVariants as key
 use Rattle.ezumokarin.specs.declared.Object.{Object}
 use Rattle.ezumokarin.specs.declared.Chunk.{Chunk}
 
@@ -43,10 +41,10 @@ chunk_read (done c) = a_chunk c.inode c.index
 
 -- ---- the same of the calls' own answers
 
-unfoldable pub plain_object : ObjectName → ℕ → Object
-plain_object (name.Block id block size) volume = an_object id block size volume
-plain_object (name.Refused r) volume = no_object r
+unfoldable pub plain_object : Result ObjectName Refusal → ℕ → Object
+plain_object (Ok o) volume = an_object o.id o.block o.length volume
+plain_object (Err r) volume = no_object r
 
-unfoldable pub plain_chunk : ChunkKey → Chunk
-plain_chunk (key.Key inode index) = a_chunk inode index
-plain_chunk (key.Refused r) = no_chunk r
+unfoldable pub plain_chunk : Result ChunkKey Refusal → Chunk
+plain_chunk (Ok k) = a_chunk k.inode k.index
+plain_chunk (Err r) = no_chunk r

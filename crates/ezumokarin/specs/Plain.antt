@@ -1,11 +1,7 @@
 -- Answers as structs of numbers: refusal 0 on success; a field without meaning is 0. Assumes nothing.
-use Rattle.std.specs.Prelude.{ℕ, List, length}
+use Rattle.std.specs.Prelude.{ℕ, List, length, Result, Ok, Err}
 use Rattle.outcomes.specs.Outcome.{Outcome, refused, done}
 use Rattle.outcomes.specs.declared.Refusal.{Refusal}
-use Rattle.slices.specs.declared.Checked.{Checked}
-use Rattle.slices.specs.declared.Checked.TheVariants as checked
-use Rattle.outcomes.specs.declared.Answer.{Answer}
-use Rattle.outcomes.specs.declared.Answer.TheVariants as answer
 use Rattle.ezumokarin.specs.declared.Plain.{Plain}
 
 -- success, with its count
@@ -28,10 +24,6 @@ wrote (done bs) = success (length bs)
 
 -- ---- the same of the calls' own answers
 
-unfoldable pub plain_checked : Checked → Plain
-plain_checked (checked.Accepted n) = success n
-plain_checked (checked.Refused r) = failure r
-
-unfoldable pub plain_answer : Answer → Plain
-plain_answer (answer.Wrote n) = success n
-plain_answer (answer.Refused r) = failure r
+unfoldable pub plain_answer : Result ℕ Refusal → Plain
+plain_answer (Ok n) = success n
+plain_answer (Err r) = failure r

@@ -1,12 +1,10 @@
 -- What a search for a position answers, as a struct of numbers. On a refusal, and where no segment holds the position, the others are 0.
 -- Assumes nothing.
-use Rattle.std.specs.Prelude.{ℕ}
+use Rattle.std.specs.Prelude.{ℕ, Option, Some, None, Result, Ok, Err}
+use Rattle.outcomes.specs.declared.Refusal.{Refusal}
 use Rattle.outcomes.specs.Outcome.{Outcome, refused, done}
 use Rattle.slices.specs.declared.Record.{Record}
 use Rattle.seeking.specs.declared.Found.{Found as FoundOf}
-use Rattle.seeking.specs.declared.Found.TheVariants.{Nowhere, At}
-use Rattle.seeking.specs.declared.Sought.{Sought}
-use Rattle.seeking.specs.declared.Sought.TheVariants.{Looked, Refused}
 use Rattle.ezumokarin.specs.declared.Found.{Found}
 
 -- no segment, with a refusal's number and place or with zeros
@@ -19,19 +17,19 @@ a_segment number r =
     record { refusal = 0; place = 0; found = 1; segment = number; pos = r.pos; id = r.id; size = r.size; off = r.off; len = r.len }
 
 -- what was found
-unfoldable pub plain_found : FoundOf → Found
-plain_found Nowhere = no_segment 0 0
-plain_found (At number r) = a_segment number r
+unfoldable pub plain_found : Option FoundOf → Found
+plain_found None = no_segment 0 0
+plain_found (Some f) = a_segment f.number f.segment
 
 -- a search in bytes
-unfoldable pub found_in : Outcome FoundOf → Found
+unfoldable pub found_in : Outcome (Option FoundOf) → Found
 unfolding plain_found
 found_in (refused r) = no_segment r.number r.place
 found_in (done f) = plain_found f
 
 -- ---- the same of the call's own answer
 
-unfoldable pub plain_sought : Sought → Found
+unfoldable pub plain_sought : Result (Option FoundOf) Refusal → Found
 unfolding plain_found
-plain_sought (Looked f) = plain_found f
-plain_sought (Refused r) = no_segment r.number r.place
+plain_sought (Ok f) = plain_found f
+plain_sought (Err r) = no_segment r.number r.place

@@ -1,14 +1,12 @@
 -- What comes next in a read, as a struct of numbers. On a refusal, and once the read is finished, there is no piece, and its numbers are 0.
 -- Assumes nothing.
-use Rattle.std.specs.Prelude.{ℕ}
+use Rattle.std.specs.Prelude.{ℕ, Option, Some, None, Result, Ok, Err}
 use Rattle.outcomes.specs.Outcome.{OutcomeOf, Outcome, refused, done}
 use Rattle.joined.specs.declared.ListRefusal.{ListRefusal}
 use Rattle.plans.specs.declared.Piece.{Piece}
 use Rattle.stepping.specs.Step.{Step, given, finished}
-use Rattle.stepping.specs.declared.Next.{Next as NextOf}
-use Rattle.stepping.specs.declared.Next.TheVariants as next
-use Rattle.stepping.specs.declared.FileNext.{FileNext as FileNextOf}
-use Rattle.stepping.specs.declared.FileNext.TheVariants as file
+use Rattle.outcomes.specs.declared.Refusal.{Refusal}
+use Rattle.stepping.specs.declared.Given.{Given}
 use Rattle.ezumokarin.specs.declared.Next.{Next}
 use Rattle.ezumokarin.specs.declared.FileNext.{FileNext}
 
@@ -86,12 +84,12 @@ stepped_file (done s) at = in_file 0 (plain_step s at)
 
 -- ---- the same of the call's own answer
 
-unfoldable pub plain_next : NextOf → (at : ℕ) → Next
-plain_next (next.Given p place) at = a_piece p place.at
-plain_next next.Finished at = no_piece 0 0 1 at
-plain_next (next.Refused r) at = no_piece r.number r.place 0 0
+unfoldable pub plain_next : Result (Option Given) Refusal → (at : ℕ) → Next
+plain_next (Ok (Some g)) at = a_piece g.piece g.next.at
+plain_next (Ok None) at = no_piece 0 0 1 at
+plain_next (Err r) at = no_piece r.number r.place 0 0
 
-unfoldable pub plain_file_next : FileNextOf → (at : ℕ) → FileNext
-plain_file_next (file.Given p place) at = in_file 0 (a_piece p place.at)
-plain_file_next file.Finished at = in_file 0 (no_piece 0 0 1 at)
-plain_file_next (file.Refused r) at = in_file r.index (no_piece r.number r.place 0 0)
+unfoldable pub plain_file_next : Result (Option Given) ListRefusal → (at : ℕ) → FileNext
+plain_file_next (Ok (Some g)) at = in_file 0 (a_piece g.piece g.next.at)
+plain_file_next (Ok None) at = in_file 0 (no_piece 0 0 1 at)
+plain_file_next (Err r) at = in_file r.index (no_piece r.number r.place 0 0)

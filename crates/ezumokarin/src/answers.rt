@@ -4,86 +4,71 @@ ghost use Rattle.ezumokarin.specs.Changes.{plain_part};
 ghost use Rattle.ezumokarin.specs.Compact.{plain_compacted};
 ghost use Rattle.ezumokarin.specs.Files.{plain_file};
 ghost use Rattle.ezumokarin.specs.Names.{plain_object, plain_chunk};
-ghost use Rattle.ezumokarin.specs.Plain.{plain_checked, plain_answer};
-ghost use Rattle.ezumokarin.specs.Seeks.{no_segment, a_segment, plain_sought, plain_found};
+ghost use Rattle.ezumokarin.specs.Plain.{plain_answer};
+ghost use Rattle.ezumokarin.specs.Seeks.{no_segment, a_segment, plain_sought};
 
 use crate::{Chunk, Compact, Filed, Found, Object, Part, Plain};
 use compaction::Compacted;
-use files::FileAnswer;
-use history::WasRewritten;
+use joined::ListRefusal;
 use keys::ChunkKey;
 use names::ObjectName;
-use outcomes::Answer;
-use seeking::Sought;
-use slices::{Checked, Record};
+use outcomes::Refusal;
+use slices::Record;
 
-pub(crate) fn of_checked(c: Checked) -> Plain
-    ensures { result ≡ plain_checked c }
-{
-    match c {
-        Checked::Accepted(n) => Plain {
-            refusal: 0,
-            place: 0,
-            count: n as u64,
-        },
-        Checked::Refused(r) => Plain {
-            refusal: r.number as u64,
-            place: r.place as u64,
-            count: 0,
-        },
+impl From<Result<usize, Refusal>> for Plain {
+    ghost from_gives = { λ r p. p ≡ plain_answer r };
+
+    fn from(r: Result<usize, Refusal>) -> Plain {
+        match r {
+            Ok(n) => Plain {
+                refusal: 0,
+                place: 0,
+                count: n as u64,
+            },
+            Err(r) => Plain {
+                refusal: r.number as u64,
+                place: r.place as u64,
+                count: 0,
+            },
+        }
     }
 }
 
-pub(crate) fn of_answer(a: Answer) -> Plain
-    ensures { result ≡ plain_answer a }
-{
-    match a {
-        Answer::Wrote(n) => Plain {
-            refusal: 0,
-            place: 0,
-            count: n as u64,
-        },
-        Answer::Refused(r) => Plain {
-            refusal: r.number as u64,
-            place: r.place as u64,
-            count: 0,
-        },
-    }
-}
+impl From<Result<usize, ListRefusal>> for Filed {
+    ghost from_gives = { λ r p. p ≡ plain_file r };
 
-pub(crate) fn of_file(a: FileAnswer) -> Filed
-    ensures { result ≡ plain_file a }
-{
-    match a {
-        FileAnswer::Wrote(n) => Filed {
-            refusal: 0,
-            place: 0,
-            index: 0,
-            count: n as u64,
-        },
-        FileAnswer::Refused(r) => Filed {
-            refusal: r.number as u64,
-            place: r.place as u64,
-            index: r.index,
-            count: 0,
-        },
+    fn from(r: Result<usize, ListRefusal>) -> Filed {
+        match r {
+            Ok(n) => Filed {
+                refusal: 0,
+                place: 0,
+                index: 0,
+                count: n as u64,
+            },
+            Err(r) => Filed {
+                refusal: r.number as u64,
+                place: r.place as u64,
+                index: r.index,
+                count: 0,
+            },
+        }
     }
 }
 
 // An object name's answer, with the length of its volume name.
-pub(crate) fn of_object(o: ObjectName, volume: u64) -> Object
+pub(crate) fn of_object(o: Result<ObjectName, Refusal>, volume: u64) -> Object
     ensures { result ≡ plain_object o volume }
 {
     match o {
-        ObjectName::Block { id, block, length } => Object {
+        Ok(o) => Object {
             refusal: 0,
             place: 0,
-            id,
-            block,
-            length,
+            id: o.id,
+            block: o.block,
+            length: o.length,
             volume,
         },
-        ObjectName::Refused(r) => Object {
+        Err(r) => Object {
             refusal: r.number as u64,
             place: r.place as u64,
             id: 0,
@@ -94,41 +79,45 @@ pub(crate) fn of_object(o: ObjectName, volume: u64) -> Object
     }
 }
 
-pub(crate) fn of_chunk(k: ChunkKey) -> Chunk
-    ensures { result ≡ plain_chunk k }
-{
-    match k {
-        ChunkKey::Key { inode, index } => Chunk {
-            refusal: 0,
-            place: 0,
-            inode,
-            index,
-        },
-        ChunkKey::Refused(r) => Chunk {
-            refusal: r.number as u64,
-            place: r.place as u64,
-            inode: 0,
-            index: 0,
-        },
+impl From<Result<ChunkKey, Refusal>> for Chunk {
+    ghost from_gives = { λ k p. p ≡ plain_chunk k };
+
+    fn from(k: Result<ChunkKey, Refusal>) -> Chunk {
+        match k {
+            Ok(k) => Chunk {
+                refusal: 0,
+                place: 0,
+                inode: k.inode,
+                index: k.index,
+            },
+            Err(r) => Chunk {
+                refusal: r.number as u64,
+                place: r.place as u64,
+                inode: 0,
+                index: 0,
+            },
+        }
     }
 }
 
-pub(crate) fn of_compacted(c: Compacted) -> Compact
-    ensures { result ≡ plain_compacted c }
-{
-    match c {
-        Compacted::Wrote { plan, list } => Compact {
-            refusal: 0,
-            place: 0,
-            plan: plan as u64,
-            list: list as u64,
-        },
-        Compacted::Refused(r) => Compact {
-            refusal: r.number as u64,
-            place: r.place as u64,
-            plan: 0,
-            list: 0,
-        },
+impl From<Result<Compacted, Refusal>> for Compact {
+    ghost from_gives = { λ c p. p ≡ plain_compacted c };
+
+    fn from(c: Result<Compacted, Refusal>) -> Compact {
+        match c {
+            Ok(c) => Compact {
+                refusal: 0,
+                place: 0,
+                plan: c.plan as u64,
+                list: c.list as u64,
+            },
+            Err(r) => Compact {
+                refusal: r.number as u64,
+                place: r.place as u64,
+                plan: 0,
+                list: 0,
+            },
+        }
     }
 }
 
@@ -166,44 +155,31 @@ fn a_segment(number: u64, s: Record) -> Found
     }
 }
 
-pub(crate) fn of_found(f: seeking::Found) -> Found
-    ensures { result ≡ plain_found f }
-{
-    match f {
-        seeking::Found::Nowhere => no_segment(0, 0),
-        seeking::Found::At { number, segment } => a_segment(number as u64, segment),
-    }
-}
+impl From<Result<Option<seeking::Found>, Refusal>> for Found {
+    ghost from_gives = { λ s p. p ≡ plain_sought s };
 
-pub(crate) fn of_sought(s: Sought) -> Found
-    ensures { result ≡ plain_sought s }
-{
-    match s {
-        Sought::Looked(f) => of_found(f),
-        Sought::Refused(r) => no_segment(r.number as u64, r.place as u64),
+    fn from(s: Result<Option<seeking::Found>, Refusal>) -> Found {
+        match s {
+            Ok(None) => no_segment(0, 0),
+            Ok(Some(f)) => a_segment(f.number as u64, f.segment),
+            Err(r) => no_segment(r.number as u64, r.place as u64),
+        }
     }
 }
 
 // Whether a list was rewritten, with the place of the part and its length.
-pub(crate) fn of_rewritten(w: WasRewritten, offset: u64, length: u64) -> Part
+pub(crate) fn of_rewritten(w: Result<bool, Refusal>, offset: u64, length: u64) -> Part
     ensures { result ≡ plain_part w offset length }
 {
     match w {
-        WasRewritten::No => Part {
+        Ok(rewritten) => Part {
             refusal: 0,
             place: 0,
-            rewritten: 0,
+            rewritten: rewritten as u64,
             offset,
             length,
         },
-        WasRewritten::Yes => Part {
-            refusal: 0,
-            place: 0,
-            rewritten: 1,
-            offset,
-            length,
-        },
-        WasRewritten::Refused(r) => Part {
+        Err(r) => Part {
             refusal: r.number as u64,
             place: r.place as u64,
             rewritten: 0,

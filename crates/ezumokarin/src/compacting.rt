@@ -3,7 +3,7 @@ ghost use Rattle.std.specs.Prelude.{◌≡◌, length};
 ghost use Rattle.compaction.specs.Calls.{compact_outcome};
 ghost use Rattle.ezumokarin.specs.Compact.{wrote_both, plan_buffer, list_buffer};
 
-use crate::{Compact, answers};
+use crate::Compact;
 
 // compaction::compact.
 #[unsafe(no_mangle)]
@@ -20,5 +20,5 @@ pub extern "C" fn ezk_compact(
     ensures plan_after { plan.new ≡ plan_buffer (compact_outcome list.now index block_size k new_id (length plan.old) (length new_list.old)) plan.old }
     ensures new_list_after { new_list.new ≡ list_buffer (compact_outcome list.now index block_size k new_id (length plan.old) (length new_list.old)) new_list.old }
 {
-    answers::of_compacted(compaction::compact(list, index, block_size, k, new_id, plan, new_list))
+    Compact::from(compaction::compact(list, index, block_size, k, new_id, plan, new_list))
 }

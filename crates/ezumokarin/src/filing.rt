@@ -4,7 +4,7 @@ ghost use Rattle.outcomes.specs.Answers.{left_in};
 ghost use Rattle.files.specs.Calls.{file_outcome};
 ghost use Rattle.ezumokarin.specs.Files.{wrote_file};
 
-use crate::{Filed, answers};
+use crate::Filed;
 
 // files::file_plan.
 #[unsafe(no_mangle)]
@@ -21,7 +21,7 @@ pub extern "C" fn ezk_file_plan(
     ensures value { result ≡ wrote_file (file_outcome lists.now lengths.now first_index file_len block_size start count (length out.old)) }
     ensures out_after { out.new ≡ left_in (λ bs. bs) (file_outcome lists.now lengths.now first_index file_len block_size start count (length out.old)) out.old }
 {
-    answers::of_file(files::file_plan(
+    Filed::from(files::file_plan(
         lists,
         lengths,
         first_index,

@@ -4,6 +4,7 @@ ghost use Rattle.judging.specs.Calls.{judge_outcome};
 ghost use Rattle.ezumokarin.specs.Judges.{with_verdict, judged_plan, plain_judged};
 
 use crate::Judged;
+use joined::ListRefusal;
 
 // The numbers of the verdicts.
 const ACCEPTED: u64 = 1;
@@ -25,21 +26,22 @@ fn with_verdict(verdict: u64, at: u64) -> Judged
     }
 }
 
-// What the call answers.
-fn of_judged(j: judging::Judged) -> Judged
-    ensures { result ≡ plain_judged j }
-{
-    match j {
-        judging::Judged::Accepted => with_verdict(ACCEPTED, 0),
-        judging::Judged::WrongPiece(k) => with_verdict(WRONG_PIECE, k as u64),
-        judging::Judged::WrongByte(i) => with_verdict(WRONG_BYTE, i as u64),
-        judging::Judged::Refused(r) => Judged {
-            refusal: r.number as u64,
-            place: r.place as u64,
-            index: r.index,
-            verdict: 0,
-            at: 0,
-        },
+impl From<Result<judging::Judged, ListRefusal>> for Judged {
+    ghost from_gives = { λ j p. p ≡ plain_judged j };
+
+    fn from(j: Result<judging::Judged, ListRefusal>) -> Judged {
+        match j {
+            Ok(judging::Judged::Accepted) => with_verdict(ACCEPTED, 0),
+            Ok(judging::Judged::WrongPiece(k)) => with_verdict(WRONG_PIECE, k as u64),
+            Ok(judging::Judged::WrongByte(i)) => with_verdict(WRONG_BYTE, i as u64),
+            Err(r) => Judged {
+                refusal: r.number as u64,
+                place: r.place as u64,
+                index: r.index,
+                verdict: 0,
+                at: 0,
+            },
+        }
     }
 }
 
@@ -57,7 +59,7 @@ pub extern "C" fn ezk_judge_plan(
 ) -> Judged
     ensures { result ≡ judged_plan (judge_outcome lists.now lengths.now first_index file_len block_size start count plan.now) }
 {
-    of_judged(judging::judge(
+    Judged::from(judging::judge(
         lists,
         lengths,
         first_index,

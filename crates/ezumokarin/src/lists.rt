@@ -5,14 +5,14 @@ ghost use Rattle.slices.specs.Refusals.{check_outcome};
 ghost use Rattle.views.specs.Calls.{view_outcome, tidy_outcome};
 ghost use Rattle.ezumokarin.specs.Plain.{counted, wrote};
 
-use crate::{Plain, answers};
+use crate::Plain;
 
 // slices::check::check_list.
 #[unsafe(no_mangle)]
 pub extern "C" fn ezk_check(list: &[u8]) -> Plain
     ensures { result ≡ counted (check_outcome list.now) }
 {
-    answers::of_checked(slices::check::check_list(list))
+    Plain::from(slices::check::check_list(list))
 }
 
 // views::view.
@@ -21,7 +21,7 @@ pub extern "C" fn ezk_view(list: &[u8], chunk_len: u64, out: &mut [u8]) -> Plain
     ensures value { result ≡ wrote (view_outcome list.now chunk_len (length out.old)) }
     ensures out_after { out.new ≡ buffer (view_outcome list.now chunk_len (length out.old)) out.old }
 {
-    answers::of_answer(views::view(list, chunk_len, out))
+    Plain::from(views::view(list, chunk_len, out))
 }
 
 // views::tidy.
@@ -30,5 +30,5 @@ pub extern "C" fn ezk_tidy(list: &[u8], out: &mut [u8]) -> Plain
     ensures value { result ≡ wrote (tidy_outcome list.now (length out.old)) }
     ensures out_after { out.new ≡ buffer (tidy_outcome list.now (length out.old)) out.old }
 {
-    answers::of_answer(views::tidy(list, out))
+    Plain::from(views::tidy(list, out))
 }

@@ -14,7 +14,7 @@ pub extern "C" fn ezk_write_object_name(id: u64, block: u64, size: u64, out: &mu
     ensures value { result ≡ wrote (write_object id block size (length out.old)) }
     ensures out_after { out.new ≡ buffer (write_object id block size (length out.old)) out.old }
 {
-    answers::of_answer(names::write_object_name(id, block, size, out))
+    Plain::from(names::write_object_name(id, block, size, out))
 }
 
 // names::write_full_name.
@@ -29,7 +29,7 @@ pub extern "C" fn ezk_write_full_name(
     ensures value { result ≡ wrote (write_full volume.now id block size (length out.old)) }
     ensures out_after { out.new ≡ buffer (write_full volume.now id block size (length out.old)) out.old }
 {
-    answers::of_answer(names::write_full_name(volume, id, block, size, out))
+    Plain::from(names::write_full_name(volume, id, block, size, out))
 }
 
 // names::read_object_name.
@@ -57,7 +57,7 @@ pub extern "C" fn ezk_write_redis_key(inode: u64, index: u64, out: &mut [u8]) ->
     ensures value { result ≡ wrote (write_redis inode index (length out.old)) }
     ensures out_after { out.new ≡ buffer (write_redis inode index (length out.old)) out.old }
 {
-    answers::of_answer(keys::write_redis_key(inode, index, out))
+    Plain::from(keys::write_redis_key(inode, index, out))
 }
 
 // keys::write_tkv_key.
@@ -66,7 +66,7 @@ pub extern "C" fn ezk_write_tkv_key(inode: u64, index: u64, out: &mut [u8]) -> P
     ensures value { result ≡ wrote (write_tkv inode index (length out.old)) }
     ensures out_after { out.new ≡ buffer (write_tkv inode index (length out.old)) out.old }
 {
-    answers::of_answer(keys::write_tkv_key(inode, index, out))
+    Plain::from(keys::write_tkv_key(inode, index, out))
 }
 
 // keys::read_redis_key.
@@ -74,7 +74,7 @@ pub extern "C" fn ezk_write_tkv_key(inode: u64, index: u64, out: &mut [u8]) -> P
 pub extern "C" fn ezk_read_redis_key(key: &[u8]) -> Chunk
     ensures { result ≡ chunk_read (read_redis key.now) }
 {
-    answers::of_chunk(keys::read_redis_key(key))
+    Chunk::from(keys::read_redis_key(key))
 }
 
 // keys::read_tkv_key.
@@ -82,5 +82,5 @@ pub extern "C" fn ezk_read_redis_key(key: &[u8]) -> Chunk
 pub extern "C" fn ezk_read_tkv_key(key: &[u8]) -> Chunk
     ensures { result ≡ chunk_read (read_tkv key.now) }
 {
-    answers::of_chunk(keys::read_tkv_key(key))
+    Chunk::from(keys::read_tkv_key(key))
 }

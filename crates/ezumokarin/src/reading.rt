@@ -4,7 +4,7 @@ ghost use Rattle.outcomes.specs.Answers.{buffer};
 ghost use Rattle.plans.specs.Calls.{read_outcome};
 ghost use Rattle.ezumokarin.specs.Plain.{wrote};
 
-use crate::{Plain, answers};
+use crate::Plain;
 
 // plans::read_plan.
 #[unsafe(no_mangle)]
@@ -20,5 +20,5 @@ pub extern "C" fn ezk_read_plan(
     ensures value { result ≡ wrote (read_outcome list.now index chunk_len block_size start count (length out.old)) }
     ensures out_after { out.new ≡ buffer (read_outcome list.now index chunk_len block_size start count (length out.old)) out.old }
 {
-    answers::of_answer(plans::read_plan(list, index, chunk_len, block_size, start, count, out))
+    Plain::from(plans::read_plan(list, index, chunk_len, block_size, start, count, out))
 }

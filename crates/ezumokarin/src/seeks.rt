@@ -3,12 +3,12 @@ ghost use Rattle.std.specs.Prelude.{◌≡◌};
 ghost use Rattle.seeking.specs.Seek.{seek_view};
 ghost use Rattle.ezumokarin.specs.Seeks.{found_in};
 
-use crate::{Found, answers};
+use crate::Found;
 
 // seeking::find_in.
 #[unsafe(no_mangle)]
 pub extern "C" fn ezk_find(view: &[u8], segments: u64, position: u64) -> Found
     ensures { result ≡ found_in (seek_view view.now segments position) }
 {
-    answers::of_sought(seeking::find_in(view, segments, position))
+    Found::from(seeking::find_in(view, segments, position))
 }

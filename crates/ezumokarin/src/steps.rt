@@ -4,8 +4,10 @@ ghost use Rattle.stepping.specs.Calls.{next_outcome, next_file_outcome};
 ghost use Rattle.ezumokarin.specs.Steps.{no_piece, a_piece, in_file, stepped, stepped_file, plain_next, plain_file_next};
 
 use crate::{FileNext, Next};
+use joined::ListRefusal;
+use outcomes::Refusal;
 use plans::Piece;
-use stepping::Place;
+use stepping::{Given, Place};
 
 // No piece: a refusal's number and place, or that nothing is left.
 fn no_piece(refusal: u64, place: u64, finished: u64, next: u64) -> Next
@@ -69,24 +71,24 @@ fn in_file(i: u64, n: Next) -> FileNext
 }
 
 // What comes at the place `at` of a read of one chunk.
-fn of_next(n: stepping::Next, at: u64) -> Next
+fn of_next(n: Result<Option<Given>, Refusal>, at: u64) -> Next
     ensures { result ≡ plain_next n at }
 {
     match n {
-        stepping::Next::Given { piece, next } => a_piece(piece, next.at),
-        stepping::Next::Finished => no_piece(0, 0, 1, at),
-        stepping::Next::Refused(r) => no_piece(r.number as u64, r.place as u64, 0, 0),
+        Ok(Some(g)) => a_piece(g.piece, g.next.at),
+        Ok(None) => no_piece(0, 0, 1, at),
+        Err(r) => no_piece(r.number as u64, r.place as u64, 0, 0),
     }
 }
 
 // What comes at the place `at` of a read across a file.
-fn of_file_next(n: stepping::FileNext, at: u64) -> FileNext
+fn of_file_next(n: Result<Option<Given>, ListRefusal>, at: u64) -> FileNext
     ensures { result ≡ plain_file_next n at }
 {
     match n {
-        stepping::FileNext::Given { piece, next } => in_file(0, a_piece(piece, next.at)),
-        stepping::FileNext::Finished => in_file(0, no_piece(0, 0, 1, at)),
-        stepping::FileNext::Refused(r) => in_file(
+        Ok(Some(g)) => in_file(0, a_piece(g.piece, g.next.at)),
+        Ok(None) => in_file(0, no_piece(0, 0, 1, at)),
+        Err(r) => in_file(
             r.index,
             no_piece(r.number as u64, r.place as u64, 0, 0),
         ),

@@ -1,5 +1,5 @@
 -- What the call `file_plan` is to do: its refusals, in the order of paper 02 (L9), and its answer. Assumes nothing.
-use Rattle.std.specs.Prelude.{ℕ, ◌+◌, ◌-◌, Bool, ◌||◌, not, List, [], ◌∷◌, ◌++◌, map, ltb, eqb, length}
+use Rattle.std.specs.Prelude.{ℕ, ◌+◌, ◌-◌, Bool, ◌||◌, not, List, [], ◌∷◌, ◌++◌, map, ltb, eqb, length, Result, Ok, Err}
 use Rattle.slices.specs.Limits.{max_index}
 use Rattle.slices.specs.Record.{records}
 use Rattle.outcomes.specs.Numbers as number
@@ -13,8 +13,6 @@ use Rattle.plans.specs.Piece.{encode_pieces}
 use Rattle.files.specs.Limits.{max_lists}
 use Rattle.files.specs.File.{file_plan}
 use Rattle.slices.specs.declared.Record.{Record}
-use Rattle.files.specs.declared.FileAnswer.{FileAnswer}
-use Rattle.files.specs.declared.FileAnswer.TheVariants.{Wrote, Refused}
 
 -- 21: another number of lists than 1 to 16, lengths that don't add up to the bytes lent, or an index past 32 bits
 unfoldable pub wrong_chunks : List ℕ → (bytes first : ℕ) → Bool
@@ -52,9 +50,9 @@ file_outcome bs lengths first file_len B start count room =
 -- ---- what it returns and leaves
 
 -- it says how many bytes it wrote
-abbrev pub wrote_many : List ℕ → FileAnswer
-wrote_many bs = Wrote (length bs)
+abbrev pub wrote_many : List ℕ → Result ℕ ListRefusal
+wrote_many bs = Ok (length bs)
 
 -- a call with the outcome o, lent the buffer `before`, answers a and leaves `after`
-abbrev pub AnswersFile : OutcomeOf ListRefusal (List ℕ) → List ℕ → FileAnswer → List ℕ → Type 0
-AnswersFile o before a after = Replies Refused wrote_many o (lent (λ bs. bs) before after ∷ []) a
+abbrev pub AnswersFile : OutcomeOf ListRefusal (List ℕ) → List ℕ → Result ℕ ListRefusal → List ℕ → Type 0
+AnswersFile o before a after = Replies Err wrote_many o (lent (λ bs. bs) before after ∷ []) a

@@ -6,39 +6,18 @@ mod rooms;
 mod walk;
 
 ghost use Rattle.std.specs.Prelude.{◌≡◌, ◌≤◌, length};
-ghost use Rattle.outcomes.specs.Outcome.{refusal};
 ghost use Rattle.slices.specs.Limits.{max_index};
-ghost use Rattle.joined.specs.Refusals.{of_list};
 ghost use Rattle.files.specs.Limits.{max_lists};
 ghost use Rattle.files.specs.File.{file_end};
 ghost use Rattle.files.specs.Calls.{wrong_chunks, file_outcome, AnswersFile};
-ghost use Rattle.files.specs.declared.FileAnswer.TheVariants as answers;
 
 use blocks::block_allowed;
-use joined::{CheckedLists, ListRefusal};
+use joined::ListRefusal;
 use outcomes::refusals;
 use slices::{CHUNK, MAX_INDEX};
 
 // The most lists that a read may span.
 pub const LISTS: usize = 16;
-
-// What the call answers: the number of bytes that it wrote, or the refusal with the index of the list that it speaks of.
-#[derive(Clone, Copy)]
-pub enum FileAnswer {
-    Wrote(usize),
-    Refused(ListRefusal),
-}
-
-// A refusal that speaks of no list.
-pub(crate) fn refused(number: u8) -> FileAnswer
-    ensures { result ≡ answers.Refused (of_list 0 (refusal number 0)) }
-{
-    FileAnswer::Refused(ListRefusal {
-        number,
-        place: 0,
-        index: 0,
-    })
-}
 
 // Whether the lists are too many or none, their lengths do not add up, or an index is past 32 bits. No sum is made that could wrap.
 pub fn wrong_chunks(lists: &[u8], lengths: &[u64], first: u64) -> bool
@@ -82,29 +61,18 @@ pub fn file_plan(
     start: u64,
     count: u64,
     out: &mut [u8],
-) -> FileAnswer
+) -> Result<usize, ListRefusal>
     ensures { AnswersFile (file_outcome lists.now lengths.now first_index file_len block_size start count (length out.old)) out.old result out.new }
 {
     if wrong_chunks(lists, lengths, first_index) {
-        return refused(refusals::WRONG_CHUNKS);
+        return Err(joined::refusal(refusals::WRONG_CHUNKS));
     }
-    if block_allowed(block_size) {
-        match joined::check_lists(lists, lengths, first_index) {
-            CheckedLists::Refused(refusal) => FileAnswer::Refused(refusal),
-            CheckedLists::Accepted(n) => {
-                let read = plans::cut(file_end(first_index, file_len, n), start, count);
-                rooms::answer(
-                    lists,
-                    lengths,
-                    first_index as u32,
-                    read.from,
-                    read.end,
-                    block_size as u32,
-                    out,
-                )
-            }
-        }
-    } else {
-        refused(refusals::BLOCK_SIZE)
+    if !block_allowed(block_size) {
+        return Err(joined::refusal(refusals::BLOCK_SIZE));
     }
+    let n = joined::check_lists(lists, lengths, first_index)?;
+    let read = plans::cut(file_end(first_index, file_len, n), start, count);
+    let first = first_index as u32;
+    let block = block_size as u32;
+    rooms::answer(lists, lengths, first, read.from, read.end, block, out)
 }

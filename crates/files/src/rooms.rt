@@ -12,8 +12,9 @@ ghost use Rattle.files.specs.Limits.{max_lists};
 ghost use Rattle.files.specs.Calls.{AnswersFile, delivered_file};
 ghost use Rattle.files.specs.Inner.{bytes_of};
 
-use crate::{FileAnswer, refused, walk};
+use crate::walk;
 use blocks::bits_of;
+use joined::ListRefusal;
 use outcomes::refusals;
 use plans::PIECE;
 use slices::RECORD;
@@ -121,7 +122,7 @@ pub(crate) fn answer(
     end: u32,
     block: u32,
     out: &mut [u8],
-) -> FileAnswer
+) -> Result<usize, ListRefusal>
     requires lengths_value { (total lengths.now ≡ length lists.now) × All Accepts (parts lengths.now lists.now) }
     requires lengths_len_bound { (length lengths.now ≤ max_lists) × (first + length lengths.now ≤ 2 ^ 32) × (from ≤ end) }
     requires block_value { block_allowed block ≡ true }
@@ -129,11 +130,11 @@ pub(crate) fn answer(
 {
     let bits = bits_of(block);
     if roomy(lists.len(), lengths.len(), from, end, bits, out.len()) {
-        return FileAnswer::Wrote(in_room(lists, lengths, first, from, end, block, bits, true, out));
+        return Ok(in_room(lists, lengths, first, from, end, block, bits, true, out));
     }
     let need = in_room(lists, lengths, first, from, end, block, bits, false, out);
     if out.len() < need {
-        return refused(refusals::SHORT_BUFFER);
+        return Err(joined::refusal(refusals::SHORT_BUFFER));
     }
-    FileAnswer::Wrote(in_room(lists, lengths, first, from, end, block, bits, true, out))
+    Ok(in_room(lists, lengths, first, from, end, block, bits, true, out))
 }

@@ -1,10 +1,9 @@
 -- What is new since last time (paper 02, L14): of an older and a newer list, what was added, and whether the list was rewritten. Assumes nothing.
-use Rattle.std.specs.Prelude.{ℕ, ◌≡◌, Bool, true, false, ◌&&◌, not, List, [], ◌∷◌, ◌++◌, eqb, length, drop}
+use Rattle.std.specs.Prelude.{ℕ, ◌≡◌, Bool, true, false, ◌&&◌, not, List, [], ◌∷◌, ◌++◌, eqb, length, drop, Result, Ok, Err}
 use Rattle.outcomes.specs.Outcome.{Outcome, refused, done, Row, first_of}
 use Rattle.outcomes.specs.Answers.{answer_of}
 use Rattle.slices.specs.Refusals.{list_rows}
-use Rattle.history.specs.declared.WasRewritten.{WasRewritten}
-use Rattle.history.specs.declared.WasRewritten.TheVariants.{No, Yes, Refused}
+use Rattle.outcomes.specs.declared.Refusal.{Refusal}
 
 -- "the older is a beginning of the newer", byte for byte
 unfoldable pub begins : List ℕ → List ℕ → Bool
@@ -21,12 +20,8 @@ unfoldable pub history_outcome : List ℕ → List ℕ → Outcome Bool
 history_outcome older newer = first_of (history_rows older newer) (done (not (begins older newer)))
 
 -- the answer of the call `rewritten`
-abbrev pub yes_no : Bool → WasRewritten
-yes_no true = Yes
-yes_no false = No
-
-abbrev pub told : Outcome Bool → WasRewritten
-told o = answer_of Refused yes_no o
+abbrev pub told : Outcome Bool → Result Bool Refusal
+told o = answer_of Err Ok o
 
 -- the part of the newer list that is handed back: "the newer's added records", "otherwise the whole newer list", and "an empty part" on a refusal
 unfoldable pub part_for : Outcome Bool → List ℕ → List ℕ → List ℕ

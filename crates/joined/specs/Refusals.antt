@@ -1,5 +1,5 @@
 -- When one of several lists is refused: list by list, each with the rows that it has by itself, and with its index (paper 02, L9). Assumes nothing.
-use Rattle.std.specs.Prelude.{ℕ, suc, ◌+◌, ◌≡◌, List, [], ◌∷◌, ◌++◌, map, length}
+use Rattle.std.specs.Prelude.{ℕ, suc, ◌+◌, ◌≡◌, List, [], ◌∷◌, ◌++◌, map, length, Result, Ok, Err}
 use Rattle.codec.specs.All.{All}
 use Rattle.outcomes.specs.Outcome.{OutcomeOf, refused, done, RowOf, Row, first_of}
 use Rattle.outcomes.specs.Answers.{answer_of}
@@ -7,8 +7,6 @@ use Rattle.slices.specs.Accepts.{Accepts}
 use Rattle.slices.specs.Refusals.{list_rows, check_outcome}
 use Rattle.outcomes.specs.declared.Refusal.{Refusal}
 use Rattle.joined.specs.declared.ListRefusal.{ListRefusal}
-use Rattle.joined.specs.declared.CheckedLists.{CheckedLists}
-use Rattle.joined.specs.declared.CheckedLists.TheVariants.{Accepted, Refused}
 
 -- a refusal of the list with this index: its place is counted in that list
 abbrev pub of_list : ℕ → Refusal → ListRefusal
@@ -31,8 +29,8 @@ unfoldable pub lists_outcome : ℕ → List (List ℕ) → OutcomeOf ListRefusal
 lists_outcome i ls = first_of (lists_rows i ls) (done (length ls))
 
 -- the answer of the check
-abbrev pub checked_lists : OutcomeOf ListRefusal ℕ → CheckedLists
-checked_lists o = answer_of Refused Accepted o
+abbrev pub checked_lists : OutcomeOf ListRefusal ℕ → Result ℕ ListRefusal
+checked_lists o = answer_of Err Ok o
 
 -- the first list that is refused, where the first of all has the index i: r is its refusal, with its index
 pub record FirstRefusedList (i : ℕ) (ls : List (List ℕ)) (r : ListRefusal) : Type 0 where

@@ -3,9 +3,10 @@
 
 ghost use Rattle.std.specs.Prelude.{◌≡◌, ◌+◌, ◌^◌, ◌<◌, eqb, length};
 ghost use Rattle.joined.specs.Lists.{total, parts};
-ghost use Rattle.joined.specs.Refusals.{lists_outcome, checked_lists};
+ghost use Rattle.outcomes.specs.Outcome.{refusal};
+ghost use Rattle.joined.specs.Refusals.{of_list, lists_outcome, checked_lists};
 
-use slices::{Checked, check};
+use slices::check;
 
 // A refusal, and the index of the list that it speaks of.
 #[derive(Clone, Copy)]
@@ -15,11 +16,15 @@ pub struct ListRefusal {
     pub index: u64,
 }
 
-// What is said of several lists: how many they are, or the refusal.
-#[derive(Clone, Copy)]
-pub enum CheckedLists {
-    Accepted(usize),
-    Refused(ListRefusal),
+// The refusal of a call as a whole, which speaks of no list.
+pub fn refusal(number: u8) -> ListRefusal
+    ensures { result ≡ of_list 0 (refusal number 0) }
+{
+    ListRefusal {
+        number,
+        place: 0,
+        index: 0,
+    }
 }
 
 // Whether the lengths add up to so many bytes. Each is taken from what is left, so that no sum wraps.
@@ -40,7 +45,7 @@ pub fn adds_up(lengths: &[u64], bytes: usize) -> bool
 }
 
 // Checks each list in turn: how many lists there are, or the first refusal. The first list has the index `first`.
-pub fn check_lists(lists: &[u8], lengths: &[u64], first: u64) -> CheckedLists
+pub fn check_lists(lists: &[u8], lengths: &[u64], first: u64) -> Result<usize, ListRefusal>
     requires lengths_value { total lengths.now ≡ length lists.now }
     requires lengths_bound { first + length lengths.now < 2 ^ 64 }
     ensures { result ≡ checked_lists (lists_outcome first (parts lengths.now lists.now)) }
@@ -49,10 +54,10 @@ pub fn check_lists(lists: &[u8], lengths: &[u64], first: u64) -> CheckedLists
     let mut k = 0;
     while k < lengths.len() {
         let end = at + lengths[k] as usize;
-        if let Checked::Refused(refusal) = check::check_list(&lists[at..end]) {
+        if let Err(refusal) = check::check_list(&lists[at..end]) {
             let number = refusal.number;
             let place = refusal.place;
-            return CheckedLists::Refused(ListRefusal {
+            return Err(ListRefusal {
                 number,
                 place,
                 index: first + k as u64,
@@ -61,5 +66,5 @@ pub fn check_lists(lists: &[u8], lengths: &[u64], first: u64) -> CheckedLists
         at = end;
         k += 1;
     }
-    CheckedLists::Accepted(k)
+    Ok(k)
 }

@@ -1,5 +1,5 @@
 -- What the call `judge` is to do: its refusals, in the order of paper 02 (L9), and its answer. Assumes nothing.
-use Rattle.std.specs.Prelude.{ℕ, List, length}
+use Rattle.std.specs.Prelude.{ℕ, List, length, Result, Ok, Err}
 use Rattle.outcomes.specs.Outcome.{OutcomeOf, done, first_of}
 use Rattle.outcomes.specs.Answers.{answer_of}
 use Rattle.joined.specs.declared.ListRefusal.{ListRefusal}
@@ -30,5 +30,5 @@ said accepted = judged.Accepted
 said (piece k) = judged.WrongPiece k
 said (byte i) = judged.WrongByte i
 
-abbrev pub judge_answer : OutcomeOf ListRefusal Verdict → Judged
-judge_answer o = answer_of judged.Refused said o
+abbrev pub judge_answer : OutcomeOf ListRefusal Verdict → Result Judged ListRefusal
+judge_answer o = answer_of Err (λ (v : Verdict). Ok (said v)) o

@@ -1,5 +1,5 @@
 -- Chunk keys (paper 01, "Blocks, names, keys"). Claims.antt says that reading is the inverse of writing. Assumes nothing.
-use Rattle.std.specs.Prelude.{ℕ, Bool, ◌&&◌, not, List, [], ◌∷◌, ◌++◌, leb, eqb, length, get_or}
+use Rattle.std.specs.Prelude.{ℕ, Bool, ◌&&◌, not, List, [], ◌∷◌, ◌++◌, leb, eqb, length, get_or, Result, Ok, Err}
 use Rattle.codec.specs.Fixed.{big_endian, number_at}
 use Rattle.codec.specs.Little.{little_endian, little_at}
 use Rattle.codec.specs.Decimal.{decimal}
@@ -14,7 +14,7 @@ use Rattle.texts.specs.Words.{underscore}
 use Rattle.texts.specs.Parts.{Part, word, within, scan}
 use Rattle.texts.specs.Calls.{write_text, reading}
 use Rattle.keys.specs.declared.ChunkKey.{ChunkKey}
-use Rattle.keys.specs.declared.ChunkKey.TheVariants.{Key, Refused}
+use Rattle.outcomes.specs.declared.Refusal.{Refusal}
 
 -- a chunk of a file
 pub record Chunk : Type 0 where
@@ -28,9 +28,12 @@ chunk i j = record { inode = i; index = j }
 unfoldable pub chunk_allowed : ℕ → ℕ → Bool
 chunk_allowed inode index = leb inode max_number && leb index max_index
 
--- the answer of a call that reads a key: `Refused` with refusal 13, or `Key` with the inode and the index
-abbrev pub chunk_answer : Outcome Chunk → ChunkKey
-chunk_answer o = answer_of Refused (λ (c : Chunk). Key c.inode c.index) o
+-- the answer of a call that reads a key: refusal 13, or the inode and the index
+abbrev pub named : Chunk → Result ChunkKey Refusal
+named c = Ok (record { inode = c.inode; index = c.index })
+
+abbrev pub chunk_answer : Outcome Chunk → Result ChunkKey Refusal
+chunk_answer o = answer_of Err named o
 
 -- ---- Redis
 

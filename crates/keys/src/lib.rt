@@ -14,15 +14,15 @@ ghost use Rattle.keys.specs.Keys.{redis_key, read_redis, write_redis, tkv_key, t
 
 use codec::scan::Step;
 use codec::{decimal, fixed, little, pairs, width};
-use outcomes::{Answer, Refusal, refusals};
+use outcomes::{Refusal, refusals};
 use slices::MAX_INDEX;
 use texts::{MAX_NUMBER, scan, text};
 
-// What a chunk key names: a chunk of a file, or the refusal.
+// What a chunk key names: a chunk of a file.
 #[derive(Clone, Copy)]
-pub enum ChunkKey {
-    Key { inode: u64, index: u64 },
-    Refused(Refusal),
+pub struct ChunkKey {
+    pub inode: u64,
+    pub index: u64,
 }
 
 // Puts a Redis key to the front of a buffer; its numbers have so many digits.
@@ -37,23 +37,22 @@ fn put_redis(out: &mut [u8], inode: u64, index: u64, i: usize, j: usize) -> usiz
 }
 
 // Writes the Redis key of a chunk.
-pub fn write_redis_key(inode: u64, index: u64, out: &mut [u8]) -> Answer
+pub fn write_redis_key(inode: u64, index: u64, out: &mut [u8]) -> Result<usize, Refusal>
     ensures { Answers (write_redis inode index (length out.old)) out.old result out.new }
 {
     if MAX_INDEX < index {
-        return Answer::Refused(refusals::refusal(refusals::NOT_OF_FORM));
+        return Err(refusals::refusal(refusals::NOT_OF_FORM));
     }
     let i = width::digits(inode);
     let j = width::digits(index);
     if out.len() < limits::REDIS_WORDS + (i + j) {
-        return Answer::Refused(refusals::refusal(refusals::SHORT_BUFFER));
+        return Err(refusals::refusal(refusals::SHORT_BUFFER));
     }
-    let n = put_redis(out, inode, index, i, j);
-    Answer::Wrote(n)
+    Ok(put_redis(out, inode, index, i, j))
 }
 
 // The chunk that a Redis key names.
-pub fn read_redis_key(key: &[u8]) -> ChunkKey
+pub fn read_redis_key(key: &[u8]) -> Result<ChunkKey, Refusal>
     ensures { result ≡ chunk_answer (read_redis key.now) }
 {
     let start = scan::start();
@@ -62,11 +61,11 @@ pub fn read_redis_key(key: &[u8]) -> ChunkKey
     let bar = scan::word_after(key, inode, b"_");
     let index = scan::number_after(key, bar, 0, MAX_INDEX);
     match scan::end_after(key, index) {
-        Step::Next { at: _, value: _ } => ChunkKey::Key {
+        Step::Next { at: _, value: _ } => Ok(ChunkKey {
             inode: scan::value_of(inode),
             index: scan::value_of(index),
-        },
-        Step::Stop(_) => ChunkKey::Refused(refusals::refusal(refusals::NOT_OF_FORM)),
+        }),
+        Step::Stop(_) => Err(refusals::refusal(refusals::NOT_OF_FORM)),
     }
 }
 
@@ -82,11 +81,11 @@ fn put_tkv(line: &mut [u8], inode: u64, index: u32)
 }
 
 // Writes the TKV key of a chunk.
-pub fn write_tkv_key(inode: u64, index: u64, out: &mut [u8]) -> Answer
+pub fn write_tkv_key(inode: u64, index: u64, out: &mut [u8]) -> Result<usize, Refusal>
     ensures { Answers (write_tkv inode index (length out.old)) out.old result out.new }
 {
     if MAX_INDEX < index {
-        return Answer::Refused(refusals::refusal(refusals::NOT_OF_FORM));
+        return Err(refusals::refusal(refusals::NOT_OF_FORM));
     }
     let mut line = [0u8; limits::TKV];
     put_tkv(&mut line, inode, index as u32);
@@ -107,14 +106,14 @@ fn tkv_shape(key: &[u8]) -> bool
 }
 
 // The chunk that a TKV key names.
-pub fn read_tkv_key(key: &[u8]) -> ChunkKey
+pub fn read_tkv_key(key: &[u8]) -> Result<ChunkKey, Refusal>
     ensures { result ≡ chunk_answer (read_tkv key.now) }
 {
     if !tkv_shape(key) {
-        return ChunkKey::Refused(refusals::refusal(refusals::NOT_OF_FORM));
+        return Err(refusals::refusal(refusals::NOT_OF_FORM));
     }
-    ChunkKey::Key {
+    Ok(ChunkKey {
         inode: little::read_le64(key, 1),
         index: fixed::read_be32(key, 10) as u64,
-    }
+    })
 }

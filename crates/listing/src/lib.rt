@@ -9,7 +9,7 @@ ghost use Rattle.listing.specs.Listing.{file_limit};
 ghost use Rattle.listing.specs.Calls.{text_outcome};
 
 use codec::decimal::DIGITS;
-use outcomes::{Answer, refusals};
+use outcomes::{Refusal, refusals};
 use slices::{CHUNK, RECORD};
 
 // The most bytes of a file, and of the view's buffer.
@@ -26,18 +26,18 @@ fn blank() -> [u8; FILE]
 }
 
 // Writes the listing of a list; `longer` says that the file has more bytes than the list.
-pub fn text(list: &[u8], longer: bool, out: &mut [u8]) -> Answer
+pub fn text(list: &[u8], longer: bool, out: &mut [u8]) -> Result<usize, Refusal>
     ensures { Answers (text_outcome longer list.now (length out.old)) out.old result out.new }
 {
     if out.len() < TEXT {
-        return Answer::Refused(refusals::refusal(refusals::SHORT_BUFFER));
+        return Err(refusals::refusal(refusals::SHORT_BUFFER));
     }
     if longer {
-        return Answer::Wrote(lines::put_refused(out, refusals::refusal(refusals::TOO_MANY)));
+        return Ok(lines::put_refused(out, refusals::refusal(refusals::TOO_MANY)));
     }
     let mut view = blank();
     match views::view(list, CHUNK as u64, &mut view) {
-        Answer::Refused(refusal) => Answer::Wrote(lines::put_refused(out, refusal)),
-        Answer::Wrote(n) => Answer::Wrote(lines::put_view(out, &view[..n])),
+        Err(refusal) => Ok(lines::put_refused(out, refusal)),
+        Ok(n) => Ok(lines::put_view(out, &view[..n])),
     }
 }

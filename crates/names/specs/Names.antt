@@ -1,5 +1,5 @@
 -- Object names (paper 01, "Blocks, names, keys"). Claims.antt says that reading is the inverse of writing. Assumes nothing.
-use Rattle.std.specs.Prelude.{ℕ, ◌+◌, ◌*◌, ◌/◌, min, max, Bool, ◌&&◌, List, [], ◌∷◌, ◌++◌, leb, take, get_or}
+use Rattle.std.specs.Prelude.{ℕ, ◌+◌, ◌*◌, ◌/◌, min, max, Bool, ◌&&◌, List, [], ◌∷◌, ◌++◌, leb, take, get_or, Result, Ok, Err}
 use Rattle.codec.specs.Decimal.{decimal}
 use Rattle.outcomes.specs.Outcome.{Outcome, refused, done}
 use Rattle.outcomes.specs.Answers.{answer_of}
@@ -11,7 +11,7 @@ use Rattle.texts.specs.Parts.{Part, word, number, within, latest, Scan, scan, on
 use Rattle.texts.specs.Calls.{write_text, reading}
 use Rattle.names.specs.Volume.{volume_allowed, volume_run, volume_at}
 use Rattle.names.specs.declared.ObjectName.{ObjectName}
-use Rattle.names.specs.declared.ObjectName.TheVariants.{Block, Refused}
+use Rattle.outcomes.specs.declared.Refusal.{Refusal}
 
 -- an object: a block of a slice
 pub record Object : Type 0 where
@@ -61,9 +61,12 @@ object_of ns = object (get_or ns 2 0) (get_or ns 3 0) (get_or ns 4 0)
 unfoldable pub read_object : List ℕ → Outcome Object
 read_object text = reading object_of (scan name_form text [] 0)
 
--- the answer of the call that reads a short name: `Refused` with refusal 13, or `Block` with the id, the block and the block length
-abbrev pub object_answer : Outcome Object → ObjectName
-object_answer o = answer_of Refused (λ (o : Object). Block o.id o.block o.length) o
+-- the answer of the call that reads a short name: refusal 13, or the id, the block and the block length
+abbrev pub named : Object → Result ObjectName Refusal
+named o = Ok (record { id = o.id; block = o.block; length = o.length })
+
+abbrev pub object_answer : Outcome Object → Result ObjectName Refusal
+object_answer o = answer_of Err named o
 
 -- the call that writes a short name
 abbrev pub write_object : ℕ → ℕ → ℕ → ℕ → Outcome (List ℕ)
@@ -104,8 +107,8 @@ unfoldable pub read_full : List ℕ → Outcome Full
 read_full text = in_volume (take (volume_run text) text) (reading object_of (full_scan text))
 
 -- the answer of the call that reads a full name: the same, without the volume name
-abbrev pub full_answer : Outcome Full → ObjectName
-full_answer o = answer_of Refused (λ (f : Full). Block f.object.id f.object.block f.object.length) o
+abbrev pub full_answer : Outcome Full → Result ObjectName Refusal
+full_answer o = answer_of Err (λ (f : Full). named f.object) o
 
 -- "the volume name is handed back as a part of the caller's own bytes, an empty part on refusal": of a full name, what stands in
 -- front of its first slash

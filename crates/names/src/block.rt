@@ -11,7 +11,7 @@ ghost use Rattle.names.specs.Names.{name_form, object_of, object_answer, object_
 use crate::{ObjectName, limits, slice};
 use codec::decimal;
 use codec::scan::Step;
-use outcomes::refusals;
+use outcomes::{Refusal, refusals};
 use texts::{MAX_NUMBER, scan, text};
 
 // The largest number up to most whose thousandth part is at most q.
@@ -31,7 +31,7 @@ fn positive(n: u64) -> u64
 }
 
 // The object that the text names from a step on.
-pub(crate) fn read(text: &[u8], prior: Step) -> ObjectName
+pub(crate) fn read(text: &[u8], prior: Step) -> Result<ObjectName, Refusal>
     ensures { result ≡ object_answer (reading object_of (onward prior (λ i v. scan name_form text.now [] i))) }
 {
     let opened = scan::word_after(text, prior, b"chunks/");
@@ -49,12 +49,12 @@ pub(crate) fn read(text: &[u8], prior: Step) -> ObjectName
     let bar2 = scan::word_after(text, block, b"_");
     let size = scan::number_after(text, bar2, 1, limits::MAX_LENGTH);
     match scan::end_after(text, size) {
-        Step::Next { at: _, value: _ } => ObjectName::Block {
+        Step::Next { at: _, value: _ } => Ok(ObjectName {
             id: scan::value_of(id),
             block: scan::value_of(block),
             length: scan::value_of(size),
-        },
-        Step::Stop(_) => ObjectName::Refused(refusals::refusal(refusals::NOT_OF_FORM)),
+        }),
+        Step::Stop(_) => Err(refusals::refusal(refusals::NOT_OF_FORM)),
     }
 }
 

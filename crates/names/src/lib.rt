@@ -13,37 +13,37 @@ ghost use Rattle.names.specs.Inner.{Widths};
 ghost use Rattle.names.specs.Names.{read_object, object_answer, write_object, read_full, full_answer, volume_part, write_full, full_name};
 
 use codec::{pairs, width};
-use outcomes::{Answer, Refusal, refusals};
+use outcomes::{Refusal, refusals};
 use texts::{scan, text};
 
-// What an object name names: a block of a slice, or the refusal.
+// What an object name names: a block of a slice.
 #[derive(Clone, Copy)]
-pub enum ObjectName {
-    Block { id: u64, block: u64, length: u64 },
-    Refused(Refusal),
+pub struct ObjectName {
+    pub id: u64,
+    pub block: u64,
+    pub length: u64,
 }
 
 // Writes the name of an object.
-pub fn write_object_name(id: u64, block: u64, size: u64, out: &mut [u8]) -> Answer
+pub fn write_object_name(id: u64, block: u64, size: u64, out: &mut [u8]) -> Result<usize, Refusal>
     ensures { Answers (write_object id block size (length out.old)) out.old result out.new }
 {
     if !block::allowed(id, block, size) {
-        return Answer::Refused(refusals::refusal(refusals::NOT_OF_FORM));
+        return Err(refusals::refusal(refusals::NOT_OF_FORM));
     }
     let i = width::digits(id);
     let b = width::digits(block);
     let s = width::digits(size);
     let n = block::length(i, b, s);
     if out.len() < n {
-        return Answer::Refused(refusals::refusal(refusals::SHORT_BUFFER));
+        return Err(refusals::refusal(refusals::SHORT_BUFFER));
     }
     let table = pairs::table();
-    let end = block::put(out, 0, id, block, size, i, b, s, &table);
-    Answer::Wrote(end)
+    Ok(block::put(out, 0, id, block, size, i, b, s, &table))
 }
 
 // The object that a short name names.
-pub fn read_object_name(name: &[u8]) -> ObjectName
+pub fn read_object_name(name: &[u8]) -> Result<ObjectName, Refusal>
     ensures { result ≡ object_answer (read_object name.now) }
 {
     block::read(name, scan::start())
@@ -70,28 +70,27 @@ fn put_full(
 }
 
 // Writes the full name of an object: its volume's name, a slash and its short name.
-pub fn write_full_name(volume: &[u8], id: u64, block: u64, size: u64, out: &mut [u8]) -> Answer
+pub fn write_full_name(volume: &[u8], id: u64, block: u64, size: u64, out: &mut [u8]) -> Result<usize, Refusal>
     ensures { Answers (write_full volume.now id block size (length out.old)) out.old result out.new }
 {
     if !volume::allowed(volume) {
-        return Answer::Refused(refusals::refusal(refusals::NOT_OF_FORM));
+        return Err(refusals::refusal(refusals::NOT_OF_FORM));
     }
     if !block::allowed(id, block, size) {
-        return Answer::Refused(refusals::refusal(refusals::NOT_OF_FORM));
+        return Err(refusals::refusal(refusals::NOT_OF_FORM));
     }
     let i = width::digits(id);
     let b = width::digits(block);
     let s = width::digits(size);
     let n = block::length(i, b, s);
     if out.len() < volume.len() + (1 + n) {
-        return Answer::Refused(refusals::refusal(refusals::SHORT_BUFFER));
+        return Err(refusals::refusal(refusals::SHORT_BUFFER));
     }
-    let end = put_full(out, volume, id, block, size, i, b, s);
-    Answer::Wrote(end)
+    Ok(put_full(out, volume, id, block, size, i, b, s))
 }
 
 // The object that a full name names.
-pub fn read_full_name(name: &[u8]) -> ObjectName
+pub fn read_full_name(name: &[u8]) -> Result<ObjectName, Refusal>
     ensures { result ≡ full_answer (read_full name.now) }
 {
     let front = volume::read(name);
@@ -100,11 +99,11 @@ pub fn read_full_name(name: &[u8]) -> ObjectName
 }
 
 // The volume name of a full name that was read as `named`, as a part of it; an empty part where the name is refused.
-pub fn volume_part(name: &[u8], named: ObjectName) -> &[u8]
+pub fn volume_part(name: &[u8], named: Result<ObjectName, Refusal>) -> &[u8]
     requires { named ≡ full_answer (read_full name.now) }
     ensures { result.now ≡ volume_part (read_full name.now) }
 {
-    if let ObjectName::Refused(_) = named {
+    if let Err(_) = named {
         return &name[..0];
     }
     let n = volume::run(name);

@@ -1,10 +1,9 @@
 -- What a call returns, and leaves in the buffers that it was lent: in none, in one or in several. Assumes nothing.
-use Rattle.std.specs.Prelude.{ℕ, ◌≡◌, List, [], ◌∷◌, length, take}
+use Rattle.std.specs.Prelude.{ℕ, ◌≡◌, List, [], ◌∷◌, length, take, Result, Ok, Err}
+use Rattle.outcomes.specs.declared.Refusal.{Refusal}
 use Rattle.codec.specs.All.{All}
 use Rattle.codec.specs.Splice.{splice}
 use Rattle.outcomes.specs.Outcome.{OutcomeOf, refused, done, Outcome}
-use Rattle.outcomes.specs.declared.Answer.{Answer}
-use Rattle.outcomes.specs.declared.Answer.TheVariants.{Wrote, Refused}
 
 -- the answer of a call: the refusal, or what is said of what it has done
 unfoldable pub answer_of : {R A X : Type 0} → (refuse : R → X) (say : A → X) → OutcomeOf R A → X
@@ -33,17 +32,17 @@ pub record Replies {R A X : Type 0} (refuse : R → X) (say : A → X) (o : Outc
 -- ---- a call that writes bytes into one buffer
 
 -- it says how many
-abbrev pub how_many : List ℕ → Answer
-how_many bs = Wrote (length bs)
+abbrev pub how_many : List ℕ → Result ℕ Refusal
+how_many bs = Ok (length bs)
 
-abbrev pub answer : Outcome (List ℕ) → Answer
-answer o = answer_of Refused how_many o
+abbrev pub answer : Outcome (List ℕ) → Result ℕ Refusal
+answer o = answer_of Err how_many o
 
 abbrev pub buffer : Outcome (List ℕ) → List ℕ → List ℕ
 buffer o out = left_in (λ bs. bs) o out
 
-abbrev pub Answers : Outcome (List ℕ) → List ℕ → Answer → List ℕ → Type 0
-Answers o before a after = Replies Refused how_many o (lent (λ bs. bs) before after ∷ []) a
+abbrev pub Answers : Outcome (List ℕ) → List ℕ → Result ℕ Refusal → List ℕ → Type 0
+Answers o before a after = Replies Err how_many o (lent (λ bs. bs) before after ∷ []) a
 
 -- ---- what was written
 

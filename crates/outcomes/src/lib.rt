@@ -16,20 +16,12 @@ pub struct Refusal {
     pub place: usize,
 }
 
-// What a call that writes answers: the number of bytes that it wrote, or the refusal.
-#[derive(Clone, Copy)]
-pub enum Answer {
-    Wrote(usize),
-    Refused(Refusal),
-}
-
-// Copies bytes to the front of out, if they fit there.
-pub fn deliver(bytes: &[u8], out: &mut [u8]) -> Answer
+// Copies bytes to the front of out, if they fit there: how many they are.
+pub fn deliver(bytes: &[u8], out: &mut [u8]) -> Result<usize, Refusal>
     ensures { Answers (delivered bytes.now (length out.old)) out.old result out.new }
 {
     if out.len() < bytes.len() {
-        return Answer::Refused(refusals::refusal(refusals::SHORT_BUFFER));
+        return Err(refusals::refusal(refusals::SHORT_BUFFER));
     }
-    let n = put::put(out, 0, bytes);
-    Answer::Wrote(n)
+    Ok(put::put(out, 0, bytes))
 }

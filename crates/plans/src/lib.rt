@@ -15,8 +15,8 @@ ghost use Rattle.plans.specs.Calls.{read_outcome};
 ghost use Rattle.plans.specs.Inner.{Cut};
 
 use blocks::block_allowed;
-use outcomes::{Answer, refusals};
-use slices::{CHUNK, Checked, MAX_INDEX, RECORD, check};
+use outcomes::{Refusal, refusals};
+use slices::{CHUNK, MAX_INDEX, check};
 
 // The bytes of a piece.
 pub const PIECE: usize = 34;
@@ -88,42 +88,23 @@ pub fn read_plan(
     start: u64,
     count: u64,
     out: &mut [u8],
-) -> Answer
+) -> Result<usize, Refusal>
     ensures { Answers (read_outcome list.now index chunk_len block_size start count (length out.old)) out.old result out.new }
 {
     if (CHUNK as u64) < chunk_len {
-        return Answer::Refused(refusals::refusal(refusals::CHUNK_TOO_LONG));
+        return Err(refusals::refusal(refusals::CHUNK_TOO_LONG));
     }
     if MAX_INDEX < index {
-        return Answer::Refused(refusals::refusal(refusals::WRONG_CHUNKS));
+        return Err(refusals::refusal(refusals::WRONG_CHUNKS));
     }
-    if block_allowed(block_size) {
-        match check::check_list(list) {
-            Checked::Refused(refusal) => Answer::Refused(refusal),
-            Checked::Accepted(_) => {
-                let read = cut(chunk_len, start, count);
-                let n = list.len() / RECORD;
-                if n <= 32 {
-                    return rooms::small(
-                        list,
-                        read.from,
-                        read.end,
-                        block_size as u32,
-                        index as u32,
-                        out,
-                    );
-                }
-                rooms::many(
-                    list,
-                    read.from,
-                    read.end,
-                    block_size as u32,
-                    index as u32,
-                    out,
-                )
-            }
-        }
-    } else {
-        Answer::Refused(refusals::refusal(refusals::BLOCK_SIZE))
+    if !block_allowed(block_size) {
+        return Err(refusals::refusal(refusals::BLOCK_SIZE));
     }
+    let n = check::check_list(list)?;
+    let read = cut(chunk_len, start, count);
+    let block = block_size as u32;
+    if n <= 32 {
+        return rooms::small(list, read.from, read.end, block, index as u32, out);
+    }
+    rooms::many(list, read.from, read.end, block, index as u32, out)
 }

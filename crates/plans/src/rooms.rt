@@ -12,7 +12,7 @@ ghost use Rattle.plans.specs.Plan.{pieces};
 
 use crate::walk;
 use blocks::bits_of;
-use outcomes::Answer;
+use outcomes::Refusal;
 use slices::RECORD;
 
 // Resolves the list, and answers with the pieces of the positions from `from` up to `end`.
@@ -29,7 +29,7 @@ fn answer_in(
     ends: &mut [u32],
     order: &mut [u16],
     spare: &mut [u16],
-) -> Answer
+) -> Result<usize, Refusal>
     requires all { All Passes (records list.now) }
     requires list_bound { (count list.now ≤ max_records) × (from ≤ end) × (end ≤ chunk) }
     requires block_value { block_allowed block ≡ true }
@@ -38,7 +38,7 @@ fn answer_in(
     ensures { Answers (delivered (chunk_bytes index 0 (pieces block (records list.now) from (end - from))) (length out.old)) out.old result out.new }
 {
     if end <= from {
-        return Answer::Wrote(0);
+        return Ok(0);
     }
     let m = resolve::resolve(list, marks, tops, pos, ends, order, spare);
     let bits = bits_of(block);
@@ -46,7 +46,7 @@ fn answer_in(
 }
 
 // For at most 32 records.
-pub fn small(list: &[u8], from: u32, end: u32, block: u32, index: u32, out: &mut [u8]) -> Answer
+pub fn small(list: &[u8], from: u32, end: u32, block: u32, index: u32, out: &mut [u8]) -> Result<usize, Refusal>
     requires all { All Passes (records list.now) }
     requires list_bound { (count list.now ≤ 32) × (from ≤ end) × (end ≤ chunk) }
     requires block_value { block_allowed block ≡ true }
@@ -65,7 +65,7 @@ pub fn small(list: &[u8], from: u32, end: u32, block: u32, index: u32, out: &mut
 }
 
 // For at most 256 records.
-fn medium(list: &[u8], from: u32, end: u32, block: u32, index: u32, out: &mut [u8]) -> Answer
+fn medium(list: &[u8], from: u32, end: u32, block: u32, index: u32, out: &mut [u8]) -> Result<usize, Refusal>
     requires all { All Passes (records list.now) }
     requires list_bound { (count list.now ≤ 256) × (from ≤ end) × (end ≤ chunk) }
     requires block_value { block_allowed block ≡ true }
@@ -84,7 +84,7 @@ fn medium(list: &[u8], from: u32, end: u32, block: u32, index: u32, out: &mut [u
 }
 
 // For all lists that are accepted.
-fn large(list: &[u8], from: u32, end: u32, block: u32, index: u32, out: &mut [u8]) -> Answer
+fn large(list: &[u8], from: u32, end: u32, block: u32, index: u32, out: &mut [u8]) -> Result<usize, Refusal>
     requires all { All Passes (records list.now) }
     requires list_bound { (count list.now ≤ max_records) × (from ≤ end) × (end ≤ chunk) }
     requires block_value { block_allowed block ≡ true }
@@ -103,7 +103,7 @@ fn large(list: &[u8], from: u32, end: u32, block: u32, index: u32, out: &mut [u8
 }
 
 // For more than 32 records, or as many as you like.
-pub fn many(list: &[u8], from: u32, end: u32, block: u32, index: u32, out: &mut [u8]) -> Answer
+pub fn many(list: &[u8], from: u32, end: u32, block: u32, index: u32, out: &mut [u8]) -> Result<usize, Refusal>
     requires all { All Passes (records list.now) }
     requires list_bound { (count list.now ≤ max_records) × (from ≤ end) × (end ≤ chunk) }
     requires block_value { block_allowed block ≡ true }

@@ -11,7 +11,7 @@ ghost use Rattle.plans.specs.Piece.{piece_size, chunk_bytes};
 ghost use Rattle.plans.specs.Plan.{pieces};
 
 use crate::{PIECE, bytes, reach, shifts};
-use outcomes::{Answer, refusals};
+use outcomes::{Refusal, refusals};
 use resolve::segments;
 
 // Writes the pieces of the positions from `from` up to `end` into a buffer that has room for them, from `start` on, or only counts their bytes;
@@ -83,14 +83,14 @@ pub(crate) fn answer(
     bits: u32,
     index: u32,
     out: &mut [u8],
-) -> Answer
+) -> Result<usize, Refusal>
     requires ready { Ready list.now marks.now tops.now m }
     requires from_lt_end { (from < end) × (end ≤ chunk) × Shifts block bits }
     ensures { Answers (delivered (chunk_bytes index 0 (pieces block (records list.now) from (end - from))) (length out.old)) out.old result out.new }
 {
     let front = index as u64 * 4294967296;
     if roomy(m, from, end, bits, out.len()) {
-        return Answer::Wrote(walk_pieces(
+        return Ok(walk_pieces(
             list, marks, tops, m, from, end, block, bits, front, true, out, 0,
         ));
     }
@@ -98,9 +98,9 @@ pub(crate) fn answer(
         list, marks, tops, m, from, end, block, bits, front, false, out, 0,
     );
     if out.len() < need {
-        return Answer::Refused(refusals::refusal(refusals::SHORT_BUFFER));
+        return Err(refusals::refusal(refusals::SHORT_BUFFER));
     }
-    Answer::Wrote(walk_pieces(
+    Ok(walk_pieces(
         list, marks, tops, m, from, end, block, bits, front, true, out, 0,
     ))
 }

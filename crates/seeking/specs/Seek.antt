@@ -1,6 +1,6 @@
 -- Which segment of a row holds a position, found by halving (paper 02, L11). A segment is a record of a view. The row may be anything: a segment that
 -- is given was tested, and proofs/Laws/Loaded.antt shows that in a view's own records every position below its end is found. Assumes nothing.
-use Rattle.std.specs.Prelude.{ℕ, zero, suc, ◌+◌, ◌-◌, ◌/◌, min, cond, List, [], ◌∷◌, ltb, eqb, length, get_or}
+use Rattle.std.specs.Prelude.{ℕ, zero, suc, ◌+◌, ◌-◌, ◌/◌, min, cond, List, [], ◌∷◌, ltb, eqb, length, get_or, Option, Some, None, Result, Ok, Err}
 use Rattle.outcomes.specs.Numbers as number
 use Rattle.outcomes.specs.Outcome.{Outcome, done, row, first_of}
 use Rattle.outcomes.specs.Answers.{answer_of}
@@ -9,9 +9,7 @@ use Rattle.slices.specs.Record.{count, record_at}
 use Rattle.slices.specs.Refusals.{not_whole}
 use Rattle.slices.specs.declared.Record.{Record}
 use Rattle.seeking.specs.declared.Found.{Found}
-use Rattle.seeking.specs.declared.Found.TheVariants.{Nowhere, At}
-use Rattle.seeking.specs.declared.Sought.{Sought}
-use Rattle.seeking.specs.declared.Sought.TheVariants.{Looked, Refused}
+use Rattle.outcomes.specs.declared.Refusal.{Refusal}
 
 -- ---- by halving
 
@@ -30,16 +28,20 @@ halve first p (suc n) low high =
 
 -- ---- the segment
 
+-- a segment with its number
+abbrev pub numbered : ℕ → Record → Found
+numbered k r = record { number = k; segment = r }
+
 -- segment k, if it holds the position: pos + len is a sum of mathematics
-unfoldable pub if_held : ℕ → ℕ → Record → Found
-if_held p k r = cond (covers r p) (At k r) Nowhere
+unfoldable pub if_held : ℕ → ℕ → Record → Option Found
+if_held p k r = cond (covers r p) (Some (numbered k r)) None
 
 -- of the first n segments of a row, the one that holds the position
-unfoldable pub seek : (ℕ → Record) → ℕ → ℕ → Found
+unfoldable pub seek : (ℕ → Record) → ℕ → ℕ → Option Found
 unfolding halve
 seek row n p =
     let k = halve (λ (i : ℕ). (row i).pos) p n 0 n in
-    cond (eqb n 0) Nowhere (if_held p k (row k))
+    cond (eqb n 0) None (if_held p k (row k))
 
 -- ---- in a lent row
 
@@ -48,15 +50,15 @@ abbrev pub no_segment : Record
 no_segment = record { pos = 0; id = 0; size = 0; off = 0; len = 0 }
 
 -- a number above the row's length counts as that length
-unfoldable pub seek_row : List Record → ℕ → ℕ → Found
+unfoldable pub seek_row : List Record → ℕ → ℕ → Option Found
 seek_row rs number p = seek (λ (i : ℕ). get_or rs i no_segment) (min number (length rs)) p
 
 -- ---- in the bytes of a view
 
 -- refusal 1 for bytes that are no whole records ("nothing is read halfway"); a number above that of the records counts as that number
-unfoldable pub seek_view : List ℕ → ℕ → ℕ → Outcome Found
+unfoldable pub seek_view : List ℕ → ℕ → ℕ → Outcome (Option Found)
 seek_view bs segments p = first_of (row (not_whole bs) number.not_whole 0 ∷ []) (done (seek (record_at bs) (min segments (count bs)) p))
 
 -- the answer of the call
-abbrev pub sought : Outcome Found → Sought
-sought o = answer_of Refused Looked o
+abbrev pub sought : Outcome (Option Found) → Result (Option Found) Refusal
+sought o = answer_of Err Ok o

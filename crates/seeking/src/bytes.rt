@@ -26,12 +26,12 @@ fn halve(view: &[u8], n: usize, position: u64) -> usize
 }
 
 // The segment among the first n that holds the position.
-pub(crate) fn seek(view: &[u8], n: usize, position: u64) -> Found
+pub(crate) fn seek(view: &[u8], n: usize, position: u64) -> Option<Found>
     requires { n ≤ count view.now }
     ensures { result ≡ seek (record_at view.now) n position }
 {
     if n == 0 {
-        return Found::Nowhere;
+        return None;
     }
     let k = halve(view, n, position);
     half::if_held(position, k, records::read_record(view, k))

@@ -37,11 +37,11 @@ fn holds(segment: Record, position: u64) -> bool
 }
 
 // The segment that was found, tested before it is given.
-pub(crate) fn if_held(position: u64, number: usize, segment: Record) -> Found
+pub(crate) fn if_held(position: u64, number: usize, segment: Record) -> Option<Found>
     ensures { result ≡ if_held position number segment }
 {
     if holds(segment, position) {
-        return Found::At { number, segment };
+        return Some(Found { number, segment });
     }
-    Found::Nowhere
+    None
 }

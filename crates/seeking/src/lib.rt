@@ -15,54 +15,39 @@ use slices::{RECORD, Record};
 
 // The segment that holds a position, with its number in the row.
 #[derive(Clone, Copy)]
-pub enum Found {
-    Nowhere,
-    At { number: usize, segment: Record },
-}
-
-// What a search in bytes answers: what it found, or the refusal.
-#[derive(Clone, Copy)]
-pub enum Sought {
-    Looked(Found),
-    Refused(Refusal),
-}
-
-// What loading a view answers: how many segments it has, or the refusal.
-#[derive(Clone, Copy)]
-pub enum Loaded {
-    Segments(usize),
-    Refused(Refusal),
+pub struct Found {
+    pub number: usize,
+    pub segment: Record,
 }
 
 // The segment that holds a position, among the first `segments` of a view's bytes.
-pub fn find_in(view: &[u8], segments: u64, position: u64) -> Sought
+pub fn find_in(view: &[u8], segments: u64, position: u64) -> Result<Option<Found>, Refusal>
     ensures { result ≡ sought (seek_view view.now segments position) }
 {
     if view.len() % RECORD != 0 {
-        return Sought::Refused(refusals::refusal(refusals::NOT_WHOLE));
+        return Err(refusals::refusal(refusals::NOT_WHOLE));
     }
     let n = half::fewer(segments, view.len() / RECORD);
-    Sought::Looked(bytes::seek(view, n, position))
+    Ok(bytes::seek(view, n, position))
 }
 
 // The segment that holds a position, among the first `number` of a lent row.
-pub fn find(row: &[Record], number: usize, position: u64) -> Found
+pub fn find(row: &[Record], number: usize, position: u64) -> Option<Found>
     ensures { result ≡ seek_row row.now number position }
 {
     let n = half::fewer(number as u64, row.len());
     if n == 0 {
-        return Found::Nowhere;
+        return None;
     }
     let k = lent::halve(row, n, position);
     half::if_held(position, k, row[k])
 }
 
-// Loads a list's view into the front of a lent row; `bytes` is lent for the view's bytes.
-pub fn load(list: &[u8], chunk_len: u64, bytes: &mut [u8], row: &mut [Record]) -> Loaded
+// Loads a list's view into the front of a lent row: how many segments it has. `bytes` is lent for the view's bytes.
+pub fn load(list: &[u8], chunk_len: u64, bytes: &mut [u8], row: &mut [Record]) -> Result<usize, Refusal>
     ensures { Loads (load_outcome list.now chunk_len (length bytes.old) (length row.old)) bytes.old row.old result bytes.new row.new }
 {
-    let answer = within::view_within(list, chunk_len, row.len(), bytes);
-    let n = within::segments_in(answer);
+    let n = within::view_within(list, chunk_len, row.len(), bytes)?;
     lent::fill(bytes, n, row);
-    answer
+    Ok(n)
 }

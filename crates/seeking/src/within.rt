@@ -3,8 +3,7 @@ ghost use Rattle.std.specs.Prelude.{◌≡◌, length};
 ghost use Rattle.seeking.specs.Load.{load_outcome};
 ghost use Rattle.seeking.specs.Inner.{RoomFor, segments_in, Within};
 
-use crate::Loaded;
-use outcomes::Answer;
+use outcomes::Refusal;
 use slices::RECORD;
 
 // The bytes that may be written, so that both the buffer and the row have room.
@@ -18,22 +17,10 @@ fn room_for(bytes: usize, rows: usize) -> usize
 }
 
 // Writes the view's bytes, if the buffer and a row of so many elements have room for the view.
-pub(crate) fn view_within(list: &[u8], chunk_len: u64, rows: usize, bytes: &mut [u8]) -> Loaded
+pub(crate) fn view_within(list: &[u8], chunk_len: u64, rows: usize, bytes: &mut [u8]) -> Result<usize, Refusal>
     ensures { Within (load_outcome list.now chunk_len (length bytes.old) rows) rows bytes.old result bytes.new }
 {
     let room = room_for(bytes.len(), rows);
-    match views::view(list, chunk_len, &mut bytes[..room]) {
-        Answer::Wrote(n) => Loaded::Segments(n / RECORD),
-        Answer::Refused(r) => Loaded::Refused(r),
-    }
-}
-
-// How many segments were loaded: none on a refusal.
-pub(crate) fn segments_in(answer: Loaded) -> usize
-    ensures { result ≡ segments_in answer }
-{
-    match answer {
-        Loaded::Segments(n) => n,
-        Loaded::Refused(_) => 0,
-    }
+    let n = views::view(list, chunk_len, &mut bytes[..room])?;
+    Ok(n / RECORD)
 }

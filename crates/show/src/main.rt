@@ -6,7 +6,6 @@ ghost use Rattle.listing.specs.Calls.{text_room};
 ghost use Rattle.listing.specs.Listing.{file_limit};
 ghost use Rattle.show.specs.Inner.{Within, Holds};
 
-use outcomes::Answer;
 use std::fs::File;
 use std::io::Read;
 
@@ -65,7 +64,7 @@ fn put(rt: &(impl Print + Eprint), text: &[u8]) {
 
 // Prints the listing of a list, by way of a buffer for its text.
 fn print(rt: &(impl Print + Eprint), list: &[u8], longer: bool, text: &mut [u8]) {
-    if let Answer::Wrote(n) = listing::text(list, longer, text) {
+    if let Ok(n) = listing::text(list, longer, text) {
         if n <= text.len() {
             put(rt, &text[..n]);
         }

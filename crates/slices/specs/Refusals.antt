@@ -1,13 +1,12 @@
 -- When a list is refused: the rows 1 to 6 of paper 01's table, in its order, then 16 of paper 02 (L8); and when a chunk length is, 7. Assumes nothing.
-use Rattle.std.specs.Prelude.{ℕ, suc, ◌+◌, ◌%◌, Bool, false, ◌&&◌, ◌||◌, not, List, [], ◌∷◌, ◌++◌, ltb, eqb, length}
+use Rattle.std.specs.Prelude.{ℕ, suc, ◌+◌, ◌%◌, Bool, false, ◌&&◌, ◌||◌, not, List, [], ◌∷◌, ◌++◌, ltb, eqb, length, Result, Ok, Err}
+use Rattle.outcomes.specs.declared.Refusal.{Refusal}
 use Rattle.slices.specs.Limits.{record_size, chunk, max_records}
 use Rattle.slices.specs.Record.{count, records}
 use Rattle.outcomes.specs.Numbers as number
 use Rattle.outcomes.specs.Outcome.{Outcome, done, Row, row, first_of}
 use Rattle.outcomes.specs.Answers.{answer_of}
 use Rattle.slices.specs.declared.Record.{Record}
-use Rattle.slices.specs.declared.Checked.{Checked}
-use Rattle.slices.specs.declared.Checked.TheVariants.{Accepted, Refused}
 
 -- ---- the tests
 
@@ -83,5 +82,5 @@ unfoldable pub check_outcome : List ℕ → Outcome ℕ
 check_outcome bs = first_of (list_rows bs) (done (count bs))
 
 -- the answer of the check
-abbrev pub checked : Outcome ℕ → Checked
-checked o = answer_of Refused Accepted o
+abbrev pub checked : Outcome ℕ → Result ℕ Refusal
+checked o = answer_of Err Ok o

@@ -5,7 +5,7 @@ ghost use Rattle.slices.specs.Record.{count};
 ghost use Rattle.slices.specs.Refusals.{check_outcome, checked};
 ghost use Rattle.slices.specs.Inner.{fault, number_at, few, fell, Risen, Passed, Sound, FirstRefused};
 
-use crate::{CHUNK, Checked, RECORD, RECORDS, Record, records, sizes, tree};
+use crate::{CHUNK, RECORD, RECORDS, Record, records, sizes, tree};
 use outcomes::{Refusal, refusals};
 
 // In a list of up to so many records, each is compared with all before it.
@@ -113,20 +113,20 @@ fn refused_at(list: &[u8]) -> usize
 }
 
 // The number of records of a list, or its refusal.
-pub fn check_list(list: &[u8]) -> Checked
+pub fn check_list(list: &[u8]) -> Result<usize, Refusal>
     ensures { result ≡ checked (check_outcome list.now) }
 {
     if list.len() % RECORD != 0 {
-        return Checked::Refused(refusals::refusal(refusals::NOT_WHOLE));
+        return Err(refusals::refusal(refusals::NOT_WHOLE));
     }
     let n = list.len() / RECORD;
     if RECORDS < n {
-        return Checked::Refused(refusals::refusal(refusals::TOO_MANY));
+        return Err(refusals::refusal(refusals::TOO_MANY));
     }
     let place = refused_at(list);
     if place == n {
-        return Checked::Accepted(n);
+        return Ok(n);
     }
     let number = number_at(list, place);
-    Checked::Refused(Refusal { number, place })
+    Err(Refusal { number, place })
 }

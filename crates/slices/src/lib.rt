@@ -8,8 +8,6 @@ pub mod records;
 pub mod sizes;
 pub mod tree;
 
-use outcomes::Refusal;
-
 // The bytes of a record.
 pub const RECORD: usize = 24;
 
@@ -38,11 +36,4 @@ pub enum Source {
     Nothing,
     Zero,
     Byte { id: u64, size: u32, off: u32 },
-}
-
-// What is said of a list: its number of records, or the refusal.
-#[derive(Clone, Copy)]
-pub enum Checked {
-    Accepted(usize),
-    Refused(Refusal),
 }

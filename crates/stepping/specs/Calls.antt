@@ -1,5 +1,5 @@
 -- What the methods `next_piece` and `next_file_piece` are to do: their refusals, and their answers. Assumes nothing.
-use Rattle.std.specs.Prelude.{ℕ, List, map, length}
+use Rattle.std.specs.Prelude.{ℕ, List, map, length, Option, Some, None, Result, Ok, Err}
 use Rattle.slices.specs.Record.{records}
 use Rattle.outcomes.specs.Outcome.{OutcomeOf, Outcome, done, first_of}
 use Rattle.outcomes.specs.Answers.{answer_of}
@@ -11,10 +11,8 @@ use Rattle.files.specs.Calls.{lists_in, chunks_rows}
 use Rattle.files.specs.File.{site_from, file_end, file_plan}
 use Rattle.stepping.specs.Step.{Step, given, finished, piece_in, next_step, chunk_site}
 use Rattle.plans.specs.declared.Piece.{Piece}
-use Rattle.stepping.specs.declared.Next.{Next}
-use Rattle.stepping.specs.declared.Next.TheVariants as next
-use Rattle.stepping.specs.declared.FileNext.{FileNext}
-use Rattle.stepping.specs.declared.FileNext.TheVariants as file
+use Rattle.outcomes.specs.declared.Refusal.{Refusal}
+use Rattle.stepping.specs.declared.Given.{Given}
 
 -- ---- a read of one chunk
 
@@ -27,12 +25,13 @@ next_outcome bs index l B start count at =
 unfoldable pub plan_pieces : List ℕ → (index l B start count : ℕ) → List Piece
 plan_pieces bs index l B start count = map piece_in (map (in_chunk index 0) (read_plan B (records bs) l start count))
 
-unfoldable pub said_next : Step → Next
-said_next (given piece place) = next.Given piece (record { at = place })
-said_next finished = next.Finished
+-- a piece with the place behind it, if one is left
+unfoldable pub next_given : Step → Option Given
+next_given (given piece place) = Some (record { piece = piece; next = record { at = place } })
+next_given finished = None
 
-abbrev pub next_answer : Outcome Step → Next
-next_answer o = answer_of next.Refused said_next o
+abbrev pub next_answer : Outcome Step → Result (Option Given) Refusal
+next_answer o = answer_of Err (λ (s : Step). Ok (next_given s)) o
 
 -- ---- a read across the chunks of a file
 
@@ -45,9 +44,5 @@ next_file_outcome bs lengths first file_len B start count at =
 unfoldable pub file_pieces : List ℕ → List ℕ → (first file_len B start count : ℕ) → List Piece
 file_pieces bs lengths first file_len B start count = map piece_in (file_plan first B (lists_in bs lengths) file_len start count)
 
-unfoldable pub said_file_next : Step → FileNext
-said_file_next (given piece place) = file.Given piece (record { at = place })
-said_file_next finished = file.Finished
-
-abbrev pub next_file_answer : OutcomeOf ListRefusal Step → FileNext
-next_file_answer o = answer_of file.Refused said_file_next o
+abbrev pub next_file_answer : OutcomeOf ListRefusal Step → Result (Option Given) ListRefusal
+next_file_answer o = answer_of Err (λ (s : Step). Ok (next_given s)) o

@@ -8,16 +8,13 @@ mod pieces;
 mod rooms;
 
 ghost use Rattle.std.specs.Prelude.{◌≡◌, ◌+◌, ◌-◌, ◌^◌, ◌<◌, ◌≤◌};
-ghost use Rattle.outcomes.specs.Outcome.{refusal};
-ghost use Rattle.joined.specs.Refusals.{of_list};
 ghost use Rattle.stepping.specs.Calls.{next_outcome, next_answer, next_file_outcome, next_file_answer};
-ghost use Rattle.stepping.specs.declared.FileNext.TheVariants as file;
 
 use blocks::block_allowed;
-use joined::{CheckedLists, ListRefusal};
+use joined::ListRefusal;
 use outcomes::{Refusal, refusals};
 use plans::{Piece, Span};
-use slices::{CHUNK, Checked, MAX_INDEX, check};
+use slices::{CHUNK, MAX_INDEX, check};
 
 // A place in a read: how many of its bytes are already handed out.
 #[derive(Clone, Copy)]
@@ -25,31 +22,11 @@ pub struct Place {
     pub at: u64,
 }
 
-// What comes next in a read of one chunk.
+// A piece that comes next in a read, and the place behind it.
 #[derive(Clone, Copy)]
-pub enum Next {
-    Given { piece: Piece, next: Place },
-    Finished,
-    Refused(Refusal),
-}
-
-// What comes next in a read across the chunks of a file.
-#[derive(Clone, Copy)]
-pub enum FileNext {
-    Given { piece: Piece, next: Place },
-    Finished,
-    Refused(ListRefusal),
-}
-
-// A refusal that speaks of no list.
-fn refused(number: u8) -> FileNext
-    ensures { result ≡ file.Refused (of_list 0 (refusal number 0)) }
-{
-    FileNext::Refused(ListRefusal {
-        number,
-        place: 0,
-        index: 0,
-    })
+pub struct Given {
+    pub piece: Piece,
+    pub next: Place,
 }
 
 // How many bytes a read has.
@@ -71,7 +48,7 @@ fn behind(at: u64, piece: Piece) -> Place
 }
 
 impl Place {
-    // The piece that comes next in a read of `count` bytes from `start`, for a chunk of the given index and length, with objects of the given block
+    // The piece that comes next, if one is left, in a read of `count` bytes from `start`, for a chunk of the given index and length, with objects of the given block
     // size.
     pub fn next_piece(
         self,
@@ -81,41 +58,36 @@ impl Place {
         block_size: u64,
         start: u64,
         count: u64,
-    ) -> Next
+    ) -> Result<Option<Given>, Refusal>
         ensures { result ≡ next_answer (next_outcome list.now index chunk_len block_size start count self.at) }
     {
         let at = self.at;
         if (CHUNK as u64) < chunk_len {
-            return Next::Refused(refusals::refusal(refusals::CHUNK_TOO_LONG));
+            return Err(refusals::refusal(refusals::CHUNK_TOO_LONG));
         }
         if MAX_INDEX < index {
-            return Next::Refused(refusals::refusal(refusals::WRONG_CHUNKS));
+            return Err(refusals::refusal(refusals::WRONG_CHUNKS));
         }
-        if block_allowed(block_size) {
-            match check::check_list(list) {
-                Checked::Refused(refusal) => Next::Refused(refusal),
-                Checked::Accepted(_) => {
-                    let read = plans::cut(chunk_len, start, count);
-                    if bytes_of(read) <= at {
-                        return Next::Finished;
-                    }
-                    let piece = pieces::piece_at(
-                        list,
-                        index as u32,
-                        at as u32,
-                        read.from + at as u32,
-                        read.end,
-                        block_size as u32,
-                    );
-                    Next::Given {
-                        piece,
-                        next: behind(at, piece),
-                    }
-                }
-            }
-        } else {
-            Next::Refused(refusals::refusal(refusals::BLOCK_SIZE))
+        if !block_allowed(block_size) {
+            return Err(refusals::refusal(refusals::BLOCK_SIZE));
         }
+        check::check_list(list)?;
+        let read = plans::cut(chunk_len, start, count);
+        if bytes_of(read) <= at {
+            return Ok(None);
+        }
+        let piece = pieces::piece_at(
+            list,
+            index as u32,
+            at as u32,
+            read.from + at as u32,
+            read.end,
+            block_size as u32,
+        );
+        Ok(Some(Given {
+            piece,
+            next: behind(at, piece),
+        }))
     }
 
     // The same for a read across the chunks of a file. The lists are those of the chunks from `first_index` on, one after the other, and `start` is
@@ -129,38 +101,33 @@ impl Place {
         block_size: u64,
         start: u64,
         count: u64,
-    ) -> FileNext
+    ) -> Result<Option<Given>, ListRefusal>
         ensures { result ≡ next_file_answer (next_file_outcome lists.now lengths.now first_index file_len block_size start count self.at) }
     {
         let at = self.at;
         if files::wrong_chunks(lists, lengths, first_index) {
-            return refused(refusals::WRONG_CHUNKS);
+            return Err(joined::refusal(refusals::WRONG_CHUNKS));
         }
-        if block_allowed(block_size) {
-            match joined::check_lists(lists, lengths, first_index) {
-                CheckedLists::Refused(refusal) => FileNext::Refused(refusal),
-                CheckedLists::Accepted(n) => {
-                    let read = plans::cut(files::file_end(first_index, file_len, n), start, count);
-                    if bytes_of(read) <= at {
-                        return FileNext::Finished;
-                    }
-                    let piece = chunks::piece_in(
-                        lists,
-                        lengths,
-                        first_index as u32,
-                        at as u32,
-                        read.from + at as u32,
-                        read.end,
-                        block_size as u32,
-                    );
-                    FileNext::Given {
-                        piece,
-                        next: behind(at, piece),
-                    }
-                }
-            }
-        } else {
-            refused(refusals::BLOCK_SIZE)
+        if !block_allowed(block_size) {
+            return Err(joined::refusal(refusals::BLOCK_SIZE));
         }
+        let n = joined::check_lists(lists, lengths, first_index)?;
+        let read = plans::cut(files::file_end(first_index, file_len, n), start, count);
+        if bytes_of(read) <= at {
+            return Ok(None);
+        }
+        let piece = chunks::piece_in(
+            lists,
+            lengths,
+            first_index as u32,
+            at as u32,
+            read.from + at as u32,
+            read.end,
+            block_size as u32,
+        );
+        Ok(Some(Given {
+            piece,
+            next: behind(at, piece),
+        }))
     }
 }

@@ -8,7 +8,7 @@ ghost use Rattle.slices.specs.Record.{records, count};
 ghost use Rattle.views.specs.Inner.{runs_outcome};
 
 use crate::walk;
-use outcomes::Answer;
+use outcomes::Refusal;
 use slices::RECORD;
 
 // Resolves the list, and answers with the records of its runs.
@@ -23,7 +23,7 @@ fn answer_in(
     ends: &mut [u32],
     order: &mut [u16],
     spare: &mut [u16],
-) -> Answer
+) -> Result<usize, Refusal>
     requires all { All Passes (records list.now) }
     requires list_bound { (count list.now ≤ max_records) × (end ≤ chunk) }
     requires list_in_bounds { (count list.now + count list.now + 1 < length marks.old) × (count list.now + count list.now < length tops.old) }
@@ -35,7 +35,7 @@ fn answer_in(
 }
 
 // For at most 4 records.
-pub(crate) fn few(list: &[u8], end: u32, all: bool, out: &mut [u8]) -> Answer
+pub(crate) fn few(list: &[u8], end: u32, all: bool, out: &mut [u8]) -> Result<usize, Refusal>
     requires all { All Passes (records list.now) }
     requires list_bound { (count list.now ≤ 4) × (end ≤ chunk) }
     ensures { Answers (runs_outcome all list.now end (length out.old)) out.old result out.new }
@@ -52,7 +52,7 @@ pub(crate) fn few(list: &[u8], end: u32, all: bool, out: &mut [u8]) -> Answer
 }
 
 // For at most 32 records.
-pub(crate) fn small(list: &[u8], end: u32, all: bool, out: &mut [u8]) -> Answer
+pub(crate) fn small(list: &[u8], end: u32, all: bool, out: &mut [u8]) -> Result<usize, Refusal>
     requires all { All Passes (records list.now) }
     requires list_bound { (count list.now ≤ 32) × (end ≤ chunk) }
     ensures { Answers (runs_outcome all list.now end (length out.old)) out.old result out.new }
@@ -69,7 +69,7 @@ pub(crate) fn small(list: &[u8], end: u32, all: bool, out: &mut [u8]) -> Answer
 }
 
 // For at most 256 records.
-fn medium(list: &[u8], end: u32, all: bool, out: &mut [u8]) -> Answer
+fn medium(list: &[u8], end: u32, all: bool, out: &mut [u8]) -> Result<usize, Refusal>
     requires all { All Passes (records list.now) }
     requires list_bound { (count list.now ≤ 256) × (end ≤ chunk) }
     ensures { Answers (runs_outcome all list.now end (length out.old)) out.old result out.new }
@@ -86,7 +86,7 @@ fn medium(list: &[u8], end: u32, all: bool, out: &mut [u8]) -> Answer
 }
 
 // For all lists that are accepted.
-fn large(list: &[u8], end: u32, all: bool, out: &mut [u8]) -> Answer
+fn large(list: &[u8], end: u32, all: bool, out: &mut [u8]) -> Result<usize, Refusal>
     requires all { All Passes (records list.now) }
     requires list_bound { (count list.now ≤ max_records) × (end ≤ chunk) }
     ensures { Answers (runs_outcome all list.now end (length out.old)) out.old result out.new }
@@ -103,7 +103,7 @@ fn large(list: &[u8], end: u32, all: bool, out: &mut [u8]) -> Answer
 }
 
 // For more than 32 records, or as many as you like.
-pub(crate) fn many(list: &[u8], end: u32, all: bool, out: &mut [u8]) -> Answer
+pub(crate) fn many(list: &[u8], end: u32, all: bool, out: &mut [u8]) -> Result<usize, Refusal>
     requires all { All Passes (records list.now) }
     requires list_bound { (count list.now ≤ max_records) × (end ≤ chunk) }
     ensures { Answers (runs_outcome all list.now end (length out.old)) out.old result out.new }

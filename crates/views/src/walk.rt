@@ -8,7 +8,7 @@ ghost use Rattle.slices.specs.Record.{records, encode_all};
 ghost use Rattle.views.specs.Inner.{shown, view_from, too_long, Roomy, runs_outcome};
 
 use crate::{TIDIED, bytes, maximal};
-use outcomes::{Answer, refusals};
+use outcomes::{Refusal, refusals};
 use slices::RECORD;
 
 // Whether a call refuses so many records: only a tidied list has a limit.
@@ -86,20 +86,20 @@ pub(crate) fn answer(
     end: u32,
     all: bool,
     out: &mut [u8],
-) -> Answer
+) -> Result<usize, Refusal>
     requires ready { Ready list.now marks.now tops.now m }
     requires end_le_chunk { end ≤ chunk }
     ensures { Answers (runs_outcome all list.now end (length out.old)) out.old result out.new }
 {
     if roomy(all, m, out.len()) {
-        return Answer::Wrote(walk_runs(list, marks, tops, m, end, all, true, out));
+        return Ok(walk_runs(list, marks, tops, m, end, all, true, out));
     }
     let need = walk_runs(list, marks, tops, m, end, all, false, out);
     if too_long(all, need / RECORD) {
-        return Answer::Refused(refusals::refusal(refusals::TIDIED_TOO_LONG));
+        return Err(refusals::refusal(refusals::TIDIED_TOO_LONG));
     }
     if out.len() < need {
-        return Answer::Refused(refusals::refusal(refusals::SHORT_BUFFER));
+        return Err(refusals::refusal(refusals::SHORT_BUFFER));
     }
-    Answer::Wrote(walk_runs(list, marks, tops, m, end, all, true, out))
+    Ok(walk_runs(list, marks, tops, m, end, all, true, out))
 }

@@ -20,7 +20,7 @@ use Rattle.blocks.specs.Blocks.{block_allowed, block_size_bad}
 use Rattle.plans.specs.Calls.{past_index}
 use Rattle.compaction.specs.Calls.{too_few, id_in_use, Both, both, delivered_both, later_rows, compact_rows, compact_outcome}
 use Rattle.outcomes.specs.declared.Refusal.{Refusal}
-use Rattle.slices.specs.declared.Checked.TheVariants as check
+use Rattle.std.specs.Prelude.{Ok, Err}
 
 -- ---- the outcome
 
@@ -35,12 +35,12 @@ module _ (bs : List ℕ) (index B k id plan_room list_room : ℕ) where
     compact_8 e = row_passes _ _ _ _ _ (le-ltb max_index index i) ∙ row_holds _ _ _ _ _ (ap not (sym h ∙ e))
 
     module _ (e : t ≡ true) where
-      pub compact_refused : (r : Refusal) → checked (check_outcome bs) ≡ check.Refused r → compact_outcome bs index B k id plan_room list_room ≡ refused r
+      pub compact_refused : (r : Refusal) → checked (check_outcome bs) ≡ Err r → compact_outcome bs index B k id plan_room list_room ≡ refused r
       unfolding compact_outcome compact_rows past_index block_size_bad
       compact_refused r g =
           row_passes _ _ _ _ _ (le-ltb max_index index i) ∙ row_passes _ _ _ _ _ (ap not (sym h ∙ e)) ∙ list_stops bs _ _ r g
 
-      pub compact_accepted : (n : ℕ) → checked (check_outcome bs) ≡ check.Accepted n
+      pub compact_accepted : (n : ℕ) → checked (check_outcome bs) ≡ Ok n
           → compact_outcome bs index B k id plan_room list_room ≡ first_of (later_rows (records bs) index B k id plan_room list_room) (done (both index B (records bs) k id))
       unfolding compact_outcome compact_rows past_index block_size_bad
       compact_accepted n g =

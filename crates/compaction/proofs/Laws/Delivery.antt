@@ -13,8 +13,7 @@ use Rattle.slices.specs.Limits.{record_size, max_records}
 use Rattle.outcomes.specs.Numbers as number
 use Rattle.outcomes.specs.Answers.{Answers}
 use Rattle.outcomes.specs.Outcome.{refused, refusal, delivered}
-use Rattle.outcomes.specs.declared.Answer.{Answer}
-use Rattle.outcomes.specs.declared.Answer.TheVariants.{Wrote, Refused}
+use Rattle.std.specs.Prelude.{Result, Ok, Err}
 use Rattle.outcomes.specs.declared.Refusal.{Refusal}
 use Rattle.slices.specs.Passes.{Passes}
 use Rattle.slices.specs.Record.{encode_all, count, records}
@@ -27,7 +26,7 @@ use Rattle.codec.proofs.Laws.All.{all_take}
 use Rattle.slices.proofs.Laws.Firsts.{encode-append, firsts_records, rest_bytes}
 use Rattle.compaction.proofs.Laws.Calls.{short_plan, short_list, room_for_both}
 use Rattle.outcomes.proofs.Laws.Answers.{replies_refused, replies_done, short_said, done_said}
-use Rattle.compaction.specs.declared.Compacted.TheVariants as compacted
+use Rattle.std.specs.Prelude.{Err}
 
 -- what is put behind what stands at the front
 pub put_behind : (out o₁ o₂ a b : List ℕ) (i : ℕ) → i ≡ length a → length a ≤ length out → o₁ ≡ splice out 0 a → o₂ ≡ splice o₁ i b → o₂ ≡ splice out 0 (a ++ b)
@@ -67,16 +66,16 @@ module _ (bs : List ℕ) (b : Bytes bs) (whole : length bs % record_size ≡ 0) 
         first_short_list g = short_list (both index B (records bs) k id) (length plan) (length list) (omega (arith, list_length))
 
         -- what was answered for the plan
-        module _ (l : m + (length bs - k * record_size) ≤ length list) (plan' : List ℕ) (x : Answer)
+        module _ (l : m + (length bs - k * record_size) ≤ length list) (plan' : List ℕ) (x : Result ℕ Refusal)
             (a : Answers (delivered (chunk_bytes index 0 (pieces B (records first_bytes) from (end - from))) (length plan)) plan x plan') where
-          pub first_refused : (r : Refusal) → x ≡ Refused r
+          pub first_refused : (r : Refusal) → x ≡ Err r
               → Compacts (delivered_both (both index B (records bs) k id) (length plan) (length list)) plan list (compacted.Refused r) plan' list
           unfolding both
           first_refused r e =
               let y = short_said (chunk_bytes index 0 (pieces B (records first_bytes) from (end - from))) plan plan' x a r e in
               replies_refused _ _ _ _ (short_plan (both index B (records bs) k id) (length plan) (length list) (omega (arith, ap length plan_is, y.0))) y.1 (y.2, (refl, tt))
 
-          pub first_done : (n : ℕ) → x ≡ Wrote n → (list' : List ℕ) → list' ≡ splice list 0 (encode_all (stand_for from end id) ++ drop (k * record_size) bs)
+          pub first_done : (n : ℕ) → x ≡ Ok n → (list' : List ℕ) → list' ≡ splice list 0 (encode_all (stand_for from end id) ++ drop (k * record_size) bs)
               → Compacts (delivered_both (both index B (records bs) k id) (length plan) (length list)) plan list (compacted.Wrote n (m + (length bs - k * record_size))) plan' list'
           unfolding both
           first_done n e list' q =

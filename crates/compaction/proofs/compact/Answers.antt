@@ -3,7 +3,7 @@ use Prim.Native.Nat.{◌≤◌}
 use native.Mathlib.Omega.{arith}
 use mathlib.Core.Path.{◌≡◌, refl, sym, ◌∙◌}
 use Rattle.slices.specs.Refusals.{check_outcome, checked}
-use Rattle.slices.specs.declared.Checked.TheVariants.{Accepted}
+use Rattle.std.specs.Prelude.{Ok}
 use Rattle.slices.proofs.Laws.Refusals.{check_accepts}
 use Rattle.blocks.specs.Blocks.{smallest, largest}
 use Rattle.blocks.proofs.Laws.Blocks.{block_range}
@@ -13,7 +13,7 @@ use Rattle.compaction.proofs.compact.Goals as goal
 use Rattle.compaction.proofs.compact.Goals.{In-Accepted, Then-block_allowed}
 
 -- the list is accepted
-accepted : (c : In-Accepted) → checked (check_outcome c.args.list.now) ≡ Accepted c.in-Accepted.field-0
+accepted : (c : In-Accepted) → checked (check_outcome c.args.list.now) ≡ Ok c.in-Accepted.field-0
 accepted c = sym c.check_list.ensures ∙ c.in-Accepted.is
 
 -- the block size is in range

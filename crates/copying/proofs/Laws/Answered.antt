@@ -12,14 +12,13 @@ use Rattle.slices.specs.Accepts.{Accepts}
 use Rattle.outcomes.specs.Outcome.{Outcome, refused, done, Row, first_of, NoneHolds}
 use Rattle.outcomes.specs.Answers.{answer_of, left_in, Answers, Front}
 use Rattle.outcomes.proofs.Laws.Answers.{front_of, said_wrote}
-use Rattle.outcomes.specs.declared.Answer.TheVariants.{Wrote}
-use Rattle.compaction.specs.declared.Compacted.TheVariants as both
+use Rattle.std.specs.Prelude.{Ok}
 use Rattle.slices.specs.Refusals.{list_rows}
 use Rattle.outcomes.proofs.Laws.Outcome.{done_none, done_is}
 use Rattle.slices.proofs.Laws.Refusals.{none_accepts}
 use Rattle.views.specs.View.{tidied_bytes}
 use Rattle.views.specs.Calls.{tidy_rows, tidy_outcome}
-use Rattle.compaction.specs.Calls.{Both, both, later_rows, compact_rows, compact_outcome, Compacts}
+use Rattle.compaction.specs.Calls.{wrote, Both, both, later_rows, compact_rows, compact_outcome, Compacts}
 use Rattle.compaction.specs.Compaction.{plan_bytes, new_list_bytes}
 use Rattle.compaction.proofs.Laws.Again.{compact_done_accepted}
 use Rattle.copying.specs.ThirdDemand.{Sound, Allowed}
@@ -31,7 +30,7 @@ module _ (bs : List ℕ) (b : Bytes bs) where
   list_sound : NoneHolds (list_rows bs) → Sound (records bs)
   list_sound h = record { pass = (none_accepts bs h).pass; fit = records_fit bs b }
 
-  pub tidied_wrote : (before after : List ℕ) (n : ℕ) → Answers (tidy_outcome bs (length before)) before (Wrote n) after
+  pub tidied_wrote : (before after : List ℕ) (n : ℕ) → Answers (tidy_outcome bs (length before)) before (Ok n) after
       → Sound (records bs) × Front (tidied_bytes (records bs)) n after
   unfolding tidy_outcome tidy_rows
   tidied_wrote before after n a =
@@ -59,12 +58,12 @@ module _ (bs : List ℕ) (b : Bytes bs) where
           enough = later.0;
         }
 
-    pub compacted_wrote : Compacts (compact_outcome bs index B k id (length plan) (length list)) plan list (both.Wrote m n) plan' list'
+    pub compacted_wrote : Compacts (compact_outcome bs index B k id (length plan) (length list)) plan list (wrote m n) plan' list'
         → Allowed index B (records bs) k id × Front (plan_bytes index B (records bs) k) m plan' × Front (new_list_bytes (records bs) k id) n list'
     unfolding compact_outcome answer_of left_in both
     compacted_wrote a = go (compact_outcome bs index B k id (length plan) (length list)) refl a
       where
-        go : (o : Outcome Both) → first_of rows (done (both index B (records bs) k id)) ≡ o → Compacts o plan list (both.Wrote m n) plan' list'
+        go : (o : Outcome Both) → first_of rows (done (both index B (records bs) k id)) ≡ o → Compacts o plan list (wrote m n) plan' list'
             → Allowed index B (records bs) k id × Front (plan_bytes index B (records bs) k) m plan' × Front (new_list_bytes (records bs) k id) n list'
         go (refused r) e a = let z : ◌≡◌ {A = ℕ} 0 1 = cc a.answers in absurd (omega arith)
         go (done b) e a =
@@ -75,11 +74,11 @@ module _ (bs : List ℕ) (b : Bytes bs) where
             )
 
     -- and the new list is accepted again
-    pub compacted_wrote_accepted : Compacts (compact_outcome bs index B k id (length plan) (length list)) plan list (both.Wrote m n) plan' list' → Accepts (take n list')
+    pub compacted_wrote_accepted : Compacts (compact_outcome bs index B k id (length plan) (length list)) plan list (wrote m n) plan' list' → Accepts (take n list')
     unfolding answer_of left_in
     compacted_wrote_accepted a = go (compact_outcome bs index B k id (length plan) (length list)) refl a
       where
-        go : (o : Outcome Both) → compact_outcome bs index B k id (length plan) (length list) ≡ o → Compacts o plan list (both.Wrote m n) plan' list' → Accepts (take n list')
+        go : (o : Outcome Both) → compact_outcome bs index B k id (length plan) (length list) ≡ o → Compacts o plan list (wrote m n) plan' list' → Accepts (take n list')
         go (refused r) e a = let z : ◌≡◌ {A = ℕ} 0 1 = cc a.answers in absurd (omega arith)
         go (done w) e a =
             let new = front_of list list' w.list n (cc a.answers) a.leaves.1.0 in

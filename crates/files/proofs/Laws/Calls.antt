@@ -29,7 +29,7 @@ use Rattle.files.specs.File.{file_end, file_pieces, file_plan, chunk_plans}
 use Rattle.files.proofs.Laws.Joins.{file_pieces_join}
 use Rattle.slices.specs.declared.Record.{Record}
 use Rattle.joined.specs.declared.ListRefusal.{ListRefusal}
-use Rattle.joined.specs.declared.CheckedLists.TheVariants.{Accepted, Refused}
+use Rattle.std.specs.Prelude.{Ok, Err}
 
 -- the plan of a read that goes from `from` up to `end`
 plan_cut : (first B : ℕ) (ls : List (List Record)) (file_len start count from end : ℕ) → Cut (file_end first file_len (length ls)) start count from end
@@ -44,7 +44,7 @@ plan_cut first B ls file_len start count from end c = go (dec_lt from end) ∙ f
         rw (← c.size, e)
 
 -- how many lists are accepted
-pub accepted_count : (bs ns : List ℕ) (first n : ℕ) → checked_lists (lists_outcome first (parts ns bs)) ≡ Accepted n → n ≡ length ns
+pub accepted_count : (bs ns : List ℕ) (first n : ℕ) → checked_lists (lists_outcome first (parts ns bs)) ≡ Ok n → n ≡ length ns
 accepted_count bs ns first n k = lists_counted first (parts ns bs) n (said_accepted _ n k) ∙ parts-length ns bs
 
 -- ---- the refusals of every read across chunks, whatever it does behind them
@@ -67,7 +67,7 @@ module _ {A : Type 0} (bs ns : List ℕ) (first B : ℕ) (o : OutcomeOf ListRefu
       pub chunks_stop : (r : ListRefusal) → lists_outcome first (parts ns bs) ≡ refused r → first_of (chunks_rows bs ns first B) o ≡ refused r
       chunks_stop r k = lists_decide ∙ lists_stops first (parts ns bs) o r k
 
-      pub chunks_refused : (r : ListRefusal) → checked_lists (lists_outcome first (parts ns bs)) ≡ Refused r → first_of (chunks_rows bs ns first B) o ≡ refused r
+      pub chunks_refused : (r : ListRefusal) → checked_lists (lists_outcome first (parts ns bs)) ≡ Err r → first_of (chunks_rows bs ns first B) o ≡ refused r
       chunks_refused r k = chunks_stop r (said_refused _ r k)
 
       pub chunks_let : (n : ℕ) → lists_outcome first (parts ns bs) ≡ done n → first_of (chunks_rows bs ns first B) o ≡ o
@@ -101,7 +101,7 @@ module _ (bs ns : List ℕ) (first file_len B start count room : ℕ) where
       pub file_first_list : (r : ListRefusal) → FirstRefusedList first (parts ns bs) r → outcome ≡ refused r
       file_first_list r f = file_is ∙ chunks_stop bs ns first B _ h e r ((lists_refused_exactly first (parts ns bs) r).1 f)
 
-      pub file_refused : (r : ListRefusal) → checked_lists (lists_outcome first (parts ns bs)) ≡ Refused r → outcome ≡ refused r
+      pub file_refused : (r : ListRefusal) → checked_lists (lists_outcome first (parts ns bs)) ≡ Err r → outcome ≡ refused r
       file_refused r k = file_is ∙ chunks_refused bs ns first B _ h e r k
 
       passes : All Accepts (parts ns bs) → outcome ≡ delivered_file (file_bytes bs ns first file_len B start count) room
@@ -119,7 +119,7 @@ module _ (bs ns : List ℕ) (first file_len B start count room : ℕ) where
       unfolding lists_in
       lists_counted_in n k = rw length-map (lists_counted first (parts ns bs) n k)
 
-      pub file_accepted : (n : ℕ) → checked_lists (lists_outcome first (parts ns bs)) ≡ Accepted n → (from end : ℕ) → Cut (file_end first file_len n) start count from end
+      pub file_accepted : (n : ℕ) → checked_lists (lists_outcome first (parts ns bs)) ≡ Ok n → (from end : ℕ) → Cut (file_end first file_len n) start count from end
           → outcome ≡ delivered_file (encode_pieces (chunk_plans first B from end 0 (map records (parts ns bs)))) room
       unfolding file_bytes lists_in
       file_accepted n k from end c =

@@ -14,27 +14,26 @@ use Rattle.codec.proofs.Laws.All.{all_left, all_right, all_append}
 use Rattle.slices.specs.Accepts.{Accepts}
 use Rattle.slices.specs.Refusals.{list_rows, check_outcome, checked}
 use Rattle.slices.proofs.Laws.Refusals.{list_stops, list_lets, check_stops, check_lets, none_accepts, accepted_exactly, check_answered_exactly}
-use Rattle.history.specs.History.{begins, history_rows, history_outcome, yes_no, told, part_for, added_part, Continues}
+use Rattle.history.specs.History.{begins, history_rows, history_outcome, told, part_for, added_part, Continues}
 use Rattle.history.proofs.Laws.Begins.{begins_longer, begins_exactly}
 use Rattle.outcomes.specs.declared.Refusal.{Refusal}
-use Rattle.slices.specs.declared.Checked.TheVariants as check
-use Rattle.history.specs.declared.WasRewritten.TheVariants.{No, Yes, Refused}
+use Rattle.std.specs.Prelude.{Ok, Err}
 
 -- ---- what an answer says
 
-told_no : (o : Outcome Bool) → told o ≡ No → o ≡ done false
+told_no : (o : Outcome Bool) → told o ≡ Ok false → o ≡ done false
 unfolding answer_of
 told_no (refused r) h = let z : ◌≡◌ {A = ℕ} 0 1 = cc in absurd (omega arith)
 told_no (done true) h = let z : ◌≡◌ {A = ℕ} 0 1 = cc in absurd (omega arith)
 told_no (done false) h = refl
 
-told_yes : (o : Outcome Bool) → told o ≡ Yes → o ≡ done true
+told_yes : (o : Outcome Bool) → told o ≡ Ok true → o ≡ done true
 unfolding answer_of
 told_yes (refused r) h = let z : ◌≡◌ {A = ℕ} 0 1 = cc in absurd (omega arith)
 told_yes (done true) h = refl
 told_yes (done false) h = let z : ◌≡◌ {A = ℕ} 0 1 = cc in absurd (omega arith)
 
-told_refused : (o : Outcome Bool) (r : Refusal) → told o ≡ Refused r → o ≡ refused r
+told_refused : (o : Outcome Bool) (r : Refusal) → told o ≡ Err r → o ≡ refused r
 unfolding answer_of
 told_refused (refused q) r h = let e : q ≡ r = cc in ap refused e
 told_refused (done true) r h = let z : ◌≡◌ {A = ℕ} 0 1 = cc in absurd (omega arith)
@@ -42,27 +41,27 @@ told_refused (done false) r h = let z : ◌≡◌ {A = ℕ} 0 1 = cc in absurd (
 
 -- ---- what is to be answered
 
-pub told_of_refused : (o : Outcome Bool) (r : Refusal) → o ≡ refused r → Refused r ≡ told o
+pub told_of_refused : (o : Outcome Bool) (r : Refusal) → o ≡ refused r → Err r ≡ told o
 unfolding answer_of
 told_of_refused o r e = rw e
 
-pub told_of_done : (o : Outcome Bool) (t : Bool) → o ≡ done t → {s : Bool} → t ≡ s → yes_no s ≡ told o
+pub told_of_done : (o : Outcome Bool) (t : Bool) → o ≡ done t → {s : Bool} → t ≡ s → Ok s ≡ told o
 unfolding answer_of
 told_of_done o t e f = rw (e, f)
 
 module _ (older newer : List ℕ) where
   -- ---- whether the list was rewritten
 
-  pub history_older : (r : Refusal) → checked (check_outcome older) ≡ check.Refused r → history_outcome older newer ≡ refused r
+  pub history_older : (r : Refusal) → checked (check_outcome older) ≡ Err r → history_outcome older newer ≡ refused r
   unfolding history_outcome history_rows
   history_older r e = list_stops older _ _ r e
 
-  module _ (n : ℕ) (e : checked (check_outcome older) ≡ check.Accepted n) where
-    pub history_newer : (r : Refusal) → checked (check_outcome newer) ≡ check.Refused r → history_outcome older newer ≡ refused r
+  module _ (n : ℕ) (e : checked (check_outcome older) ≡ Ok n) where
+    pub history_newer : (r : Refusal) → checked (check_outcome newer) ≡ Err r → history_outcome older newer ≡ refused r
     unfolding history_outcome history_rows
     history_newer r f = list_lets older _ _ n e ∙ check_stops newer _ r f
 
-    pub history_both : (m : ℕ) → checked (check_outcome newer) ≡ check.Accepted m → history_outcome older newer ≡ done (not (begins older newer))
+    pub history_both : (m : ℕ) → checked (check_outcome newer) ≡ Ok m → history_outcome older newer ≡ done (not (begins older newer))
     unfolding history_outcome history_rows
     history_both m f = list_lets older _ _ n e ∙ check_lets newer _ m f
 
@@ -95,7 +94,7 @@ module _ (older newer : List ℕ) where
       go true e = e
       go false e = absurd (false≢true (history_says false h ∙ ap not e))
 
-  pub no_shorter : told (history_outcome older newer) ≡ No → length older ≤ length newer
+  pub no_shorter : told (history_outcome older newer) ≡ Ok false → length older ≤ length newer
   no_shorter h = go (dec_lt (length newer) (length older))
     where
       go : Dec (length newer < length older) → length older ≤ length newer
@@ -130,15 +129,15 @@ module _ (older newer : List ℕ) where
 
   -- ---- the part, by the answer
 
-  pub part_no : told (history_outcome older newer) ≡ No → added_part older newer ≡ drop (length older) newer
+  pub part_no : told (history_outcome older newer) ≡ Ok false → added_part older newer ≡ drop (length older) newer
   unfolding added_part part_for
   part_no h = rw (told_no _ h)
 
-  pub part_yes : told (history_outcome older newer) ≡ Yes → added_part older newer ≡ newer
+  pub part_yes : told (history_outcome older newer) ≡ Ok true → added_part older newer ≡ newer
   unfolding added_part part_for
   part_yes h = rw (told_yes _ h)
 
-  pub part_refused : (r : Refusal) → told (history_outcome older newer) ≡ Refused r → added_part older newer ≡ []
+  pub part_refused : (r : Refusal) → told (history_outcome older newer) ≡ Err r → added_part older newer ≡ []
   unfolding added_part part_for
   part_refused r h = rw (told_refused _ r h)
 

@@ -3,13 +3,14 @@ use mathlib.Core.Path.{◌≡◌, sym, ◌∙◌}
 use lib.ListN.{length}
 use Rattle.codec.proofs.Laws.All.{rest_whole}
 use Rattle.history.specs.History.{history_outcome, told}
-use Rattle.history.specs.declared.WasRewritten.TheVariants.{No}
+use Rattle.std.specs.Prelude.{Ok}
+use mathlib.Core.Bool.{false}
 use Rattle.history.proofs.Laws.Calls.{no_shorter, part_no, part_yes, part_refused}
 use Rattle.history.proofs.part.Goals as goal
 use Rattle.history.proofs.part.Goals.{In-No}
 
 -- the list was not rewritten
-not_rewritten : (c : In-No) → told (history_outcome c.args.older.now c.args.newer.now) ≡ No
+not_rewritten : (c : In-No) → told (history_outcome c.args.older.now c.args.newer.now) ≡ Ok false
 not_rewritten c = sym c.requires ∙ c.in-No.is
 
 pub slice_bounds-result-count : goal.slice_bounds-result-count

@@ -2,7 +2,7 @@
 use mathlib.Core.Path.{◌≡◌, sym, ap, ◌∙◌}
 use mathlib.Core.Bool.{not}
 use Rattle.slices.specs.Refusals.{check_outcome, checked}
-use Rattle.slices.specs.declared.Checked.TheVariants.{Accepted}
+use Rattle.std.specs.Prelude.{Ok}
 use Rattle.history.proofs.Laws.Calls.{told_of_refused, told_of_done, history_older, history_newer, history_both}
 use Rattle.history.proofs.rewritten.Goals as goal
 use Rattle.history.proofs.rewritten.Goals.{In_default}
@@ -11,7 +11,7 @@ pub returns-in-Refused : goal.returns-in-Refused
 returns-in-Refused c = told_of_refused _ _ (history_older _ _ _ (sym c.check_list.ensures ∙ c.in-Refused.is))
 
 -- the older list is accepted
-older_accepted : (c : In_default) → checked (check_outcome c.args.older.now) ≡ Accepted c.in_default.field-0
+older_accepted : (c : In_default) → checked (check_outcome c.args.older.now) ≡ Ok c.in_default.field-0
 older_accepted c = sym c.check_list.ensures ∙ c.in_default.is
 
 pub returns-in-Refused-check_list : goal.returns-in-Refused-check_list

@@ -10,13 +10,12 @@ use Rattle.outcomes.specs.Answers.{answer_of}
 use Rattle.slices.specs.Record.{count}
 use Rattle.slices.specs.Refusals.{check_outcome, checked}
 use Rattle.slices.proofs.Laws.Refusals.{check_accepts, check_stops}
-use Rattle.slices.specs.declared.Checked.TheVariants as check
+use Rattle.std.specs.Prelude.{Ok, Err}
 use Rattle.joined.specs.Lists.{total, parts}
 use Rattle.joined.specs.Refusals.{of_list, lists_rows, lists_outcome, checked_lists}
 use Rattle.joined.proofs.Laws.Lists.{parts-length, Gone, gone_start, gone_next, next_list}
 use Rattle.joined.proofs.Laws.Refusals.{list_refuses, list_passes}
 use Rattle.outcomes.specs.declared.Refusal.{Refusal}
-use Rattle.joined.specs.declared.CheckedLists.TheVariants.{Accepted, Refused}
 
 -- k lists are accepted, and their bytes end at `at`
 pub record Ahead (first : ℕ) (ns bs : List ℕ) (at k : ℕ) : Type 0 where
@@ -37,7 +36,7 @@ module _ (first : ℕ) (ns bs : List ℕ) where
           ≡ first_of (lists_rows (first + k) (take (end - at) (drop at bs) ∷ parts (drop (suc k) ns) (drop end bs))) (done (length ns))
       decided = a.decides ∙ rw (next_list ns bs at k a.gone h end e)
 
-      pub ahead_next : (m : ℕ) → checked (check_outcome (take (end - at) (drop at bs))) ≡ check.Accepted m → Ahead first ns bs end (k + 1)
+      pub ahead_next : (m : ℕ) → checked (check_outcome (take (end - at) (drop at bs))) ≡ Ok m → Ahead first ns bs end (k + 1)
       ahead_next m c =
           let part = take (end - at) (drop at bs) in
           let z : suc (first + k) ≡ first + suc k = omega arith in
@@ -46,15 +45,15 @@ module _ (first : ℕ) (ns bs : List ℕ) where
             decides = rw (add-one, ← z) (decided ∙ list_passes (first + k) part (parts (drop (suc k) ns) (drop end bs)) _ (check_accepts _ m c));
           }
 
-      pub ahead_refused : (r : Refusal) → checked (check_outcome (take (end - at) (drop at bs))) ≡ check.Refused r
-          → Refused (of_list (first + k) r) ≡ checked_lists (lists_outcome first (parts ns bs))
+      pub ahead_refused : (r : Refusal) → checked (check_outcome (take (end - at) (drop at bs))) ≡ Err r
+          → Err (of_list (first + k) r) ≡ checked_lists (lists_outcome first (parts ns bs))
       unfolding answer_of check_outcome
       ahead_refused r c =
           let part = take (end - at) (drop at bs) in
           let e = check_stops part (done (count part)) r c in
           sym (ap checked_lists (decided ∙ list_refuses (first + k) part (parts (drop (suc k) ns) (drop end bs)) _ r e))
 
-    pub ahead_end : length ns ≤ k → Accepted k ≡ checked_lists (lists_outcome first (parts ns bs))
+    pub ahead_end : length ns ≤ k → Ok k ≡ checked_lists (lists_outcome first (parts ns bs))
     unfolding answer_of parts lists_rows first_of
     ahead_end h =
         let z : length ns ≡ k = omega (arith, a.gone.within) in

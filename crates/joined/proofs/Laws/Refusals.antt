@@ -18,7 +18,7 @@ use Rattle.slices.proofs.Laws.Refusals.{none_accepts, accepted_exactly, check_an
 use Rattle.joined.specs.Refusals.{of_list, rows_of, lists_rows, lists_outcome, checked_lists, FirstRefusedList}
 use Rattle.outcomes.specs.declared.Refusal.{Refusal}
 use Rattle.joined.specs.declared.ListRefusal.{ListRefusal}
-use Rattle.joined.specs.declared.CheckedLists.TheVariants.{Accepted, Refused}
+use Rattle.std.specs.Prelude.{Ok, Err}
 
 -- ---- a table that speaks of one list: its rows hold as they do without the index
 
@@ -157,12 +157,12 @@ module _ {A : Type 0} (i : ℕ) (ls : List (List ℕ)) (o : OutcomeOf ListRefusa
 
 -- ---- what the check's answer tells a call that makes it
 
-pub said_accepted : (o : OutcomeOf ListRefusal ℕ) (n : ℕ) → checked_lists o ≡ Accepted n → o ≡ done n
+pub said_accepted : (o : OutcomeOf ListRefusal ℕ) (n : ℕ) → checked_lists o ≡ Ok n → o ≡ done n
 unfolding answer_of
 said_accepted (refused r) n h = let z : ◌≡◌ {A = ℕ} 0 1 = cc in absurd (omega arith)
 said_accepted (done m) n h = let e : m ≡ n = cc in ap done e
 
-pub said_refused : (o : OutcomeOf ListRefusal ℕ) (r : ListRefusal) → checked_lists o ≡ Refused r → o ≡ refused r
+pub said_refused : (o : OutcomeOf ListRefusal ℕ) (r : ListRefusal) → checked_lists o ≡ Err r → o ≡ refused r
 unfolding answer_of
 said_refused (refused q) r h = let e : q ≡ r = cc in ap refused e
 said_refused (done m) r h = let z : ◌≡◌ {A = ℕ} 0 1 = cc in absurd (omega arith)

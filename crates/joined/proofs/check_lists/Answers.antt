@@ -28,9 +28,9 @@ slice_bounds-check_list-end c = inside (goal.at.slice_bounds-check_list-end c).I
 pub overflow_add-result : goal.overflow_add-result
 overflow_add-result c = omega (arith, c.requires.lengths_bound)
 
-pub returns-in-Refused : goal.returns-in-Refused
-returns-in-Refused c =
-    ahead_refused _ _ _ _ _ c.loop-k.invariant c.loop-k-test.true _ refl _ (sym c.check_list.ensures ∙ c.in-Refused.is)
+pub returns-in-Err : goal.returns-in-Err
+returns-in-Err c =
+    ahead_refused _ _ _ _ _ c.loop-k.invariant c.loop-k-test.true _ refl _ (sym c.check_list.ensures ∙ c.in-Err.is)
 
 pub loop-k-preserved : goal.loop-k-preserved
 loop-k-preserved c =

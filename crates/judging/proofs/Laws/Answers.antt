@@ -11,7 +11,7 @@ use Rattle.blocks.specs.Blocks.{block_allowed}
 use Rattle.slices.specs.Record.{records}
 use Rattle.joined.specs.Lists.{parts}
 use Rattle.joined.specs.Refusals.{lists_outcome, checked_lists}
-use Rattle.joined.specs.declared.CheckedLists.TheVariants.{Accepted}
+use Rattle.std.specs.Prelude.{Ok}
 use Rattle.joined.specs.declared.ListRefusal.{ListRefusal}
 use Rattle.joined.proofs.Laws.Lists.{parts-length}
 use Rattle.joined.proofs.Laws.Refusals.{said_accepted}
@@ -37,7 +37,7 @@ module _ (bs ns : List ℕ) (first file_len B start count : ℕ) (plan : List �
   unfolding judge_outcome answer_of
   judge_refused r q h e = rw h (ap judged.Refused e)
 
-  module _ (a : wrong_chunks ns (length bs) first ≡ false) (b : block_allowed B ≡ true) (m : ℕ) (k : checked_lists (lists_outcome first (parts ns bs)) ≡ Accepted m) (from end : ℕ)
+  module _ (a : wrong_chunks ns (length bs) first ≡ false) (b : block_allowed B ≡ true) (m : ℕ) (k : checked_lists (lists_outcome first (parts ns bs)) ≡ Ok m) (from end : ℕ)
       (cut : Cut (file_end first file_len m) start count from end) where
     answers : said ours ≡ judge_answer outcome
     unfolding judge_outcome answer_of

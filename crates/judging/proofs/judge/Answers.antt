@@ -9,7 +9,7 @@ use Rattle.blocks.specs.Blocks.{block_allowed}
 use Rattle.blocks.proofs.Laws.Blocks.{block_range}
 use Rattle.joined.specs.Lists.{parts}
 use Rattle.joined.specs.Refusals.{lists_outcome, checked_lists}
-use Rattle.joined.specs.declared.CheckedLists.TheVariants.{Accepted}
+use Rattle.std.specs.Prelude.{Ok}
 use Rattle.joined.proofs.Laws.Refusals.{lists_accepted, said_accepted}
 use Rattle.files.specs.Calls.{wrong_chunks}
 use Rattle.files.specs.File.{file_end}
@@ -31,7 +31,7 @@ allowed : (c : Then-block_allowed) → block_allowed c.args.block_size ≡ true
 allowed c = sym c.block_allowed.ensures ∙ c.if-block_allowed.true
 
 -- all lists are accepted
-told : (c : In-Accepted) → let a = c.args in checked_lists (lists_outcome a.first_index (parts a.lengths.now a.lists.now)) ≡ Accepted c.in-Accepted.n
+told : (c : In-Accepted) → let a = c.args in checked_lists (lists_outcome a.first_index (parts a.lengths.now a.lists.now)) ≡ Ok c.in-Accepted.n
 told c = sym c.check_lists.ensures ∙ c.in-Accepted.is
 
 pub returns-then-wrong_chunks : goal.returns-then-wrong_chunks

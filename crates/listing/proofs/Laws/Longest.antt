@@ -20,7 +20,7 @@ use Rattle.views.specs.View.{view}
 use Rattle.views.specs.Calls.{view_bytes, view_outcome}
 use Rattle.views.proofs.Laws.ViewFrom.{view_from-view}
 use Rattle.views.proofs.Laws.Calls.{view_accepted}
-use Rattle.slices.specs.declared.Checked.TheVariants.{Accepted}
+use Rattle.std.specs.Prelude.{Ok}
 use Rattle.listing.specs.Listing.{file_limit, header, lines, refused_line, listing}
 use Rattle.listing.specs.Calls.{most_runs}
 use Rattle.listing.proofs.Laws.Calls.{listing_refused, listing_prints}
@@ -29,7 +29,7 @@ pub most_runs_lem : most_runs ≡ 2730
 most_runs_lem = refl
 
 module _ (bs : List ℕ) (a : Accepts bs) where
-  passed : checked (check_outcome bs) ≡ Accepted (count bs)
+  passed : checked (check_outcome bs) ≡ Ok (count bs)
   unfolding answer_of
   passed = rw ((accepted_exactly bs).1 a)
 

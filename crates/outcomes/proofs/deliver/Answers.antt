@@ -15,4 +15,4 @@ returns-then-out-bytes c =
 pub returns : goal.returns
 returns c =
     let a = c.args in
-    answers_done _ a.bytes.now a.out.now _ _ (short_done a.bytes.now (length a.out.now) c.if-out-bytes.false) (omega (arith, c.put-n.ensures.0)) c.put-n.ensures.1
+    answers_done _ a.bytes.now a.out.now _ _ (short_done a.bytes.now (length a.out.now) c.if-out-bytes.false) (omega (arith, c.put.ensures.0)) c.put.ensures.1

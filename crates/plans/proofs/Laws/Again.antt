@@ -24,7 +24,7 @@ use Rattle.plans.specs.Calls.{plan_bytes}
 use Rattle.slices.specs.declared.Record.{Record}
 use Rattle.slices.specs.declared.Source.{Source}
 use Rattle.slices.specs.declared.Source.TheVariants.{Nothing, Zero, Byte}
-use Rattle.outcomes.specs.declared.Answer.TheVariants.{Wrote}
+use Rattle.std.specs.Prelude.{Ok}
 
 module _ (rs again : List Record) (l : ℕ) (a : Again rs again l) (B : ℕ) where
   -- nothing and a zero lie nowhere
@@ -58,7 +58,7 @@ module _ (rs : List Record) (h : All Passes rs) (l : ℕ) (c : l ≤ chunk) (B :
 
 -- ---- the bytes that the call wrote
 
-module _ (bs : List ℕ) (b : Bytes bs) (l : ℕ) (before after : List ℕ) (n : ℕ) (a : Answers (view_outcome bs l (length before)) before (Wrote n) after) (B : ℕ) where
+module _ (bs : List ℕ) (b : Bytes bs) (l : ℕ) (before after : List ℕ) (n : ℕ) (a : Answers (view_outcome bs l (length before)) before (Ok n) after) (B : ℕ) where
   pub view_wrote_again_reads : (st : Store) (p : ℕ) → p < l → reads B st (records (take n after)) p ≡ reads B st (records bs) p
   view_wrote_again_reads = same_reads (records bs) (records (take n after)) l (view_wrote_again bs b l before after n a).means B
 

@@ -20,7 +20,7 @@ use Rattle.plans.specs.Inner.{Cut}
 use Rattle.plans.specs.Calls.{past_index, plan_bytes, chunk_rows, read_rows, read_outcome}
 use Rattle.plans.proofs.Laws.Walk.{plan_cut}
 use Rattle.outcomes.specs.declared.Refusal.{Refusal}
-use Rattle.slices.specs.declared.Checked.TheVariants.{Accepted, Refused}
+use Rattle.std.specs.Prelude.{Ok, Err}
 
 -- ---- the refusals of every read of one chunk, whatever it does behind them
 
@@ -46,10 +46,10 @@ module _ {A : Type 0} (bs : List ℕ) (index l B : ℕ) (o : Outcome A) where
         list_decides =
             row_passes _ _ _ _ _ (le-ltb chunk l h) ∙ row_passes _ _ _ _ _ (le-ltb max_index index g) ∙ row_passes _ _ _ _ _ (ap not (sym b ∙ e))
 
-        pub chunk_refused : (r : Refusal) → checked (check_outcome bs) ≡ Refused r → first_of (chunk_rows bs index l B) o ≡ refused r
+        pub chunk_refused : (r : Refusal) → checked (check_outcome bs) ≡ Err r → first_of (chunk_rows bs index l B) o ≡ refused r
         chunk_refused r k = list_decides ∙ check_stops bs o r k
 
-        pub chunk_accepted : (n : ℕ) → checked (check_outcome bs) ≡ Accepted n → first_of (chunk_rows bs index l B) o ≡ o
+        pub chunk_accepted : (n : ℕ) → checked (check_outcome bs) ≡ Ok n → first_of (chunk_rows bs index l B) o ≡ o
         chunk_accepted n k = list_decides ∙ check_lets bs o n k
 
 -- ---- those of `read_plan`
@@ -76,10 +76,10 @@ module _ (bs : List ℕ) (index l B start count room : ℕ) where
       read_8 e = read_is ∙ chunk_8 bs index l B _ h g t b e
 
       module _ (e : t ≡ true) where
-        pub read_refused : (r : Refusal) → checked (check_outcome bs) ≡ Refused r → read_outcome bs index l B start count room ≡ refused r
+        pub read_refused : (r : Refusal) → checked (check_outcome bs) ≡ Err r → read_outcome bs index l B start count room ≡ refused r
         read_refused r k = read_is ∙ chunk_refused bs index l B _ h g t b e r k
 
-        pub read_accepted : (n : ℕ) → checked (check_outcome bs) ≡ Accepted n → (from end : ℕ) → Cut l start count from end
+        pub read_accepted : (n : ℕ) → checked (check_outcome bs) ≡ Ok n → (from end : ℕ) → Cut l start count from end
             → read_outcome bs index l B start count room ≡ delivered (chunk_bytes index 0 (pieces B (records bs) from (end - from))) room
         unfolding plan_bytes
         read_accepted n k from end c = read_is ∙ chunk_accepted bs index l B _ h g t b e n k ∙ rw (plan_cut B (records bs) l start count from end c)

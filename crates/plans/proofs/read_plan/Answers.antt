@@ -4,7 +4,7 @@ use native.Mathlib.Omega.{arith}
 use mathlib.Core.Path.{◌≡◌, sym, ◌∙◌}
 use Rattle.slices.specs.Limits.{chunk}
 use Rattle.slices.specs.Refusals.{check_outcome, checked}
-use Rattle.slices.specs.declared.Checked.TheVariants.{Accepted}
+use Rattle.std.specs.Prelude.{Ok}
 use Rattle.outcomes.proofs.Laws.Answers.{answers_refused, answers_refusal, answers_as}
 use Rattle.slices.proofs.Laws.Refusals.{check_accepts}
 use Rattle.blocks.specs.Blocks.{smallest, largest}
@@ -15,7 +15,7 @@ use Rattle.plans.proofs.read_plan.Goals as goal
 use Rattle.plans.proofs.read_plan.Goals.{In-Accepted, Then-block_allowed}
 
 -- the list is accepted
-accepted : (c : In-Accepted) → checked (check_outcome c.args.list.now) ≡ Accepted c.in-Accepted.field-0
+accepted : (c : In-Accepted) → checked (check_outcome c.args.list.now) ≡ Ok c.in-Accepted.field-0
 accepted c = sym c.check_list.ensures ∙ c.in-Accepted.is
 
 -- the block size is in range

@@ -12,7 +12,7 @@ use Rattle.codec.specs.Groups.{groups_from}
 use Rattle.outcomes.specs.Outcome.{done}
 use Rattle.outcomes.specs.Answers.{Answers}
 use Rattle.outcomes.proofs.Laws.Outcome.{done_is}
-use Rattle.outcomes.specs.declared.Answer.TheVariants.{Wrote}
+use Rattle.std.specs.Prelude.{Ok}
 use Rattle.slices.specs.Limits.{record_size, chunk}
 use Rattle.slices.specs.Passes.{Passes}
 use Rattle.slices.specs.Record.{decode, record_at, records_from, count, records}
@@ -73,7 +73,7 @@ module _ (bs : List ℕ) (b : Bytes bs) where
         }
 
   -- of the bytes that the call wrote
-  pub view_wrote_finds : (l : ℕ) (before after : List ℕ) (n : ℕ) → Answers (view_outcome bs l (length before)) before (Wrote n) after
+  pub view_wrote_finds : (l : ℕ) (before after : List ℕ) (n : ℕ) → Answers (view_outcome bs l (length before)) before (Ok n) after
       → FindsIn (take n after) (n / record_size) l
   unfolding count
   view_wrote_finds l before after n a =
@@ -81,7 +81,7 @@ module _ (bs : List ℕ) (b : Bytes bs) where
       rw (w.2.front, w.2.counted) (view_finds w.0.pass l w.1)
 
   -- of the whole buffer: what stands behind the view's segments is not looked at
-  pub view_buffer_finds : (l : ℕ) (before after : List ℕ) (n : ℕ) → Answers (view_outcome bs l (length before)) before (Wrote n) after
+  pub view_buffer_finds : (l : ℕ) (before after : List ℕ) (n : ℕ) → Answers (view_outcome bs l (length before)) before (Ok n) after
       → Bytes after → length after % record_size ≡ 0 → FindsIn after (n / record_size) l
   unfolding count
   view_buffer_finds l before after n a ba h =

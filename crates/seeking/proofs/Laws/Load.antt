@@ -20,7 +20,7 @@ use Rattle.outcomes.specs.Answers.{Answers, left_in, answer_of}
 use Rattle.outcomes.proofs.Laws.Outcome.{first_of-append}
 use Rattle.outcomes.proofs.Laws.Answers.{said_refused, said_wrote}
 use Rattle.outcomes.specs.declared.Refusal.{Refusal}
-use Rattle.outcomes.specs.declared.Answer.TheVariants as answer
+use Rattle.std.specs.Prelude.{Result, Ok, Err}
 use Rattle.slices.specs.Limits.{record_size, chunk}
 use Rattle.slices.specs.Refusals.{chunk_too_long, list_rows}
 use Rattle.slices.specs.Record.{decode, records_from, records, count, encode_all}
@@ -32,9 +32,7 @@ use Rattle.views.proofs.Laws.ViewBack.{view_done, view_back}
 use Rattle.views.proofs.Laws.Calls.{view_fits}
 use Rattle.slices.specs.Passes.{Passes}
 use Rattle.seeking.specs.Load.{row_too_short, load_rows, load_outcome, row_after, Loads}
-use Rattle.seeking.specs.declared.Loaded.{Loaded}
 use Rattle.seeking.specs.Inner.{RoomFor, segments_in, filled, Within}
-use Rattle.seeking.specs.declared.Loaded.TheVariants.{Segments, Refused}
 
 -- ---- the outcome
 
@@ -133,8 +131,8 @@ module _ (bs : List ℕ) (b : Bytes bs) (l rows : ℕ) (out part : List ℕ) (r 
   part_length : length (take r out) ≡ r
   part_length = length-take-le r out f.within
 
-  pub within_refused : (q : Refusal) → Answers (view_outcome bs l (length (take r out))) (take r out) (answer.Refused q) part
-      → Within (load_outcome bs l (length out) rows) rows out (Refused q) (part ++ drop r out)
+  pub within_refused : (q : Refusal) → Answers (view_outcome bs l (length (take r out))) (take r out) (Err q) part
+      → Within (load_outcome bs l (length out) rows) rows out (Err q) (part ++ drop r out)
   unfolding answer_of left_in instead row_after segments_in
   within_refused q a =
       let e : view_outcome bs l r ≡ refused q = rw part_length at (said_refused _ _ _ _ a) in
@@ -171,7 +169,7 @@ module _ (bs : List ℕ) (b : Bytes bs) (l rows : ℕ) (out part : List ℕ) (r 
     unfolding count
     written = omega (arith, ap length after_is, length-append (view_bytes bs l) (drop (length (view_bytes bs l)) out), lengths bs l (length out) rows r f)
 
-    as_written : (n : ℕ) → n ≡ length (view_bytes bs l) → Within (load_outcome bs l (length out) rows) rows out (Segments (n / record_size)) (part ++ drop r out)
+    as_written : (n : ℕ) → n ≡ length (view_bytes bs l) → Within (load_outcome bs l (length out) rows) rows out (Ok (n / record_size)) (part ++ drop r out)
     unfolding answer_of left_in instead row_after segments_in
     as_written n en =
         let k : n / record_size ≡ length (view (records bs) l) = omega (arith, lengths bs l (length out) rows r f) in
@@ -186,11 +184,11 @@ module _ (bs : List ℕ) (b : Bytes bs) (l rows : ℕ) (out part : List ℕ) (r 
         }
         )
 
-  pub within_wrote : (n : ℕ) → Answers (view_outcome bs l (length (take r out))) (take r out) (answer.Wrote n) part
-      → Within (load_outcome bs l (length out) rows) rows out (Segments (n / record_size)) (part ++ drop r out)
+  pub within_wrote : (n : ℕ) → Answers (view_outcome bs l (length (take r out))) (take r out) (Ok n) part
+      → Within (load_outcome bs l (length out) rows) rows out (Ok (n / record_size)) (part ++ drop r out)
   unfolding left_in
   within_wrote n a =
-      let a' : Answers (view_outcome bs l r) (take r out) (answer.Wrote n) part = rw part_length at a in
+      let a' : Answers (view_outcome bs l r) (take r out) (Ok n) part = rw part_length at a in
       let w = said_wrote (view_outcome bs l r) (take r out) part n a' in
       let e : view_outcome bs l r ≡ done w.bytes = w.outcome in
       let d = view_done bs b l r w.bytes e in
@@ -201,6 +199,6 @@ module _ (bs : List ℕ) (b : Bytes bs) (l rows : ℕ) (out part : List ℕ) (r 
 -- ---- the whole
 
 -- what is filled from such bytes is what the outcome says
-pub loads : (o : Outcome (List Record)) (bytes : List ℕ) (row : List Record) (x : Loaded) (bytes_after : List ℕ) (after : List Record) (n : ℕ) → Within o (length row) bytes x bytes_after → n ≡ segments_in x
+pub loads : (o : Outcome (List Record)) (bytes : List ℕ) (row : List Record) (x : Result ℕ Refusal) (bytes_after : List ℕ) (after : List Record) (n : ℕ) → Within o (length row) bytes x bytes_after → n ≡ segments_in x
     → after ≡ filled bytes_after row n → Loads o bytes row x bytes_after after
 loads o bytes row x bytes_after after n w e h = record { answers = w.answers; leaves = w.leaves; fills = h ∙ ap (filled bytes_after row) e ∙ w.fills row }

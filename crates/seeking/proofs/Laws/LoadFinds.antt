@@ -15,7 +15,7 @@ use Rattle.views.specs.View.{view}
 use Rattle.seeking.specs.Seek.{seek_row, no_segment}
 use Rattle.seeking.specs.Load.{load_rows, load_outcome, loaded, row_after, Loads}
 use Rattle.seeking.specs.Claims.{Finds}
-use Rattle.seeking.specs.declared.Loaded.TheVariants.{Segments, Refused}
+use Rattle.std.specs.Prelude.{Ok, Err}
 use Rattle.seeking.proofs.Laws.LentRow.{row_loaded_finds}
 
 module _ (bs : List ℕ) (l room rows : ℕ) where
@@ -28,20 +28,20 @@ module _ (bs : List ℕ) (l room rows : ℕ) where
   load_answered_exactly = answered_exactly (view (records bs) l) (load_rows bs l room rows)
 
 -- a number of segments is answered only where there is a view
-said_segments : (o : Outcome (List Record)) (n : ℕ) → Segments n ≡ loaded o → (vs : List Record) × (o ≡ done vs) × (n ≡ length vs)
+said_segments : (o : Outcome (List Record)) (n : ℕ) → Ok n ≡ loaded o → (vs : List Record) × (o ≡ done vs) × (n ≡ length vs)
 unfolding answer_of
 said_segments (refused r) n e = let z : ◌≡◌ {A = ℕ} 0 1 = cc in absurd (omega arith)
 said_segments (done vs) n e = (vs, refl, cc)
 
 -- a refusal leaves the row and the bytes as they were
-pub refused_keeps : (o : Outcome (List Record)) (bytes : List ℕ) (row : List Record) (r : Refusal) (bytes_after : List ℕ) (after : List Record) → Loads o bytes row (Refused r) bytes_after after
+pub refused_keeps : (o : Outcome (List Record)) (bytes : List ℕ) (row : List Record) (r : Refusal) (bytes_after : List ℕ) (after : List Record) → Loads o bytes row (Err r) bytes_after after
     → (o ≡ refused r) × (bytes_after ≡ bytes) × (after ≡ row)
 unfolding answer_of left_in row_after
 refused_keeps (refused q) bytes row r bytes_after after w = let e : q ≡ r = cc w.answers in (ap refused e, w.leaves, w.fills)
 refused_keeps (done vs) bytes row r bytes_after after w = let z : ◌≡◌ {A = ℕ} 0 1 = cc w.answers in absurd (omega arith)
 
 module _ (bs : List ℕ) (l : ℕ) (bytes : List ℕ) (row : List Record) (n : ℕ) (bytes_after : List ℕ) (after : List Record)
-    (w : Loads (load_outcome bs l (length bytes) (length row)) bytes row (Segments n) bytes_after after) where
+    (w : Loads (load_outcome bs l (length bytes) (length row)) bytes row (Ok n) bytes_after after) where
   -- the row is the view, and then its rest as it was
   pub load_fills : (n ≡ length (view (records bs) l)) × (after ≡ view (records bs) l ++ drop n row)
   unfolding load_outcome row_after

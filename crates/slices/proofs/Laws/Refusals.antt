@@ -24,10 +24,10 @@ use Rattle.slices.specs.Refusals.{not_whole, too_many, past_chunk, too_large, ze
 use Rattle.slices.specs.Inner.{fault, number_at, size_outcome, FirstOther, check_from, Passed, FirstRefused}
 use Rattle.codec.proofs.Laws.All.{all_append, all_left, all_right}
 use Rattle.slices.proofs.Laws.OneSize.{none_one_size, one_size_none}
-use Rattle.outcomes.proofs.Laws.Outcome.{first_of-append, none_passes, done_none, stops, row_holds, row_passes, refused_exactly, answered_exactly}
+use Rattle.outcomes.proofs.Laws.Outcome.{first_of-append, none_passes, done_none, done_is, stops, row_holds, row_passes, refused_exactly, answered_exactly}
 use Rattle.slices.specs.declared.Record.{Record}
 use Rattle.outcomes.specs.declared.Refusal.{Refusal}
-use Rattle.slices.specs.declared.Checked.TheVariants.{Accepted, Refused}
+use Rattle.std.specs.Prelude.{Ok, Err}
 use Rattle.outcomes.specs.Answers.{answer_of}
 
 -- ---- one record
@@ -272,33 +272,38 @@ check_answered_exactly bs = answered_exactly (count bs) (list_rows bs)
 
 -- ---- what the check's answer tells a call that makes it
 
-checked_done : (o : Outcome ℕ) (n : ℕ) → checked o ≡ Accepted n → o ≡ done n
+checked_done : (o : Outcome ℕ) (n : ℕ) → checked o ≡ Ok n → o ≡ done n
 unfolding answer_of
 checked_done (refused r) n h = let z : ◌≡◌ {A = ℕ} 0 1 = cc in absurd (omega arith)
 checked_done (done m) n h = let e : m ≡ n = cc in ap done e
 
-checked_refused : (o : Outcome ℕ) (r : Refusal) → checked o ≡ Refused r → o ≡ refused r
+checked_refused : (o : Outcome ℕ) (r : Refusal) → checked o ≡ Err r → o ≡ refused r
 unfolding answer_of
 checked_refused (refused q) r h = let e : q ≡ r = cc in ap refused e
 checked_refused (done m) r h = let z : ◌≡◌ {A = ℕ} 0 1 = cc in absurd (omega arith)
 
 module _ (bs : List ℕ) where
-  pub check_accepts : (n : ℕ) → checked (check_outcome bs) ≡ Accepted n → Accepts bs
+  pub check_accepts : (n : ℕ) → checked (check_outcome bs) ≡ Ok n → Accepts bs
   unfolding check_outcome
   check_accepts n h = none_accepts bs (done_none (count bs) (list_rows bs) n (checked_done (check_outcome bs) n h))
 
+  -- it counts the records
+  pub check_counts : (n : ℕ) → checked (check_outcome bs) ≡ Ok n → n ≡ count bs
+  unfolding check_outcome
+  check_counts n h = done_is (count bs) (list_rows bs) n (checked_done (check_outcome bs) n h)
+
   -- an accepted list's rows let through what follows them, and a refused list's do not
-  pub check_lets : {A : Type 0} (o : Outcome A) (n : ℕ) → checked (check_outcome bs) ≡ Accepted n → first_of (list_rows bs) o ≡ o
+  pub check_lets : {A : Type 0} (o : Outcome A) (n : ℕ) → checked (check_outcome bs) ≡ Ok n → first_of (list_rows bs) o ≡ o
   check_lets o n h = none_passes (list_rows bs) o (accepts_none bs (check_accepts n h))
 
-  pub check_stops : {A : Type 0} (o : Outcome A) (r : Refusal) → checked (check_outcome bs) ≡ Refused r → first_of (list_rows bs) o ≡ refused r
+  pub check_stops : {A : Type 0} (o : Outcome A) (r : Refusal) → checked (check_outcome bs) ≡ Err r → first_of (list_rows bs) o ≡ refused r
   unfolding check_outcome
   check_stops o r h = stops (count bs) (list_rows bs) o r (checked_refused (check_outcome bs) r h)
 
 -- a refused list's rows refuse, an accepted one's let through the rows behind them
 module _ {A : Type 0} (bs : List ℕ) (rest : List Row) (o : Outcome A) where
-  pub list_stops : (r : Refusal) → checked (check_outcome bs) ≡ Refused r → first_of (list_rows bs ++ rest) o ≡ refused r
+  pub list_stops : (r : Refusal) → checked (check_outcome bs) ≡ Err r → first_of (list_rows bs ++ rest) o ≡ refused r
   list_stops r h = first_of-append (list_rows bs) rest o ∙ check_stops bs (first_of rest o) r h
 
-  pub list_lets : (n : ℕ) → checked (check_outcome bs) ≡ Accepted n → first_of (list_rows bs ++ rest) o ≡ first_of rest o
+  pub list_lets : (n : ℕ) → checked (check_outcome bs) ≡ Ok n → first_of (list_rows bs ++ rest) o ≡ first_of rest o
   list_lets n h = first_of-append (list_rows bs) rest o ∙ check_lets bs (first_of rest o) n h

@@ -21,7 +21,7 @@ use Rattle.stepping.proofs.Laws.Leads.{step_piece}
 use Rattle.stepping.proofs.Laws.Steps.{finished_stays}
 use Rattle.outcomes.specs.declared.Refusal.{Refusal}
 use Rattle.slices.specs.declared.Record.{Record}
-use Rattle.slices.specs.declared.Checked.TheVariants.{Accepted}
+use Rattle.std.specs.Prelude.{Ok}
 use Rattle.plans.specs.declared.Piece.{Piece}
 use Rattle.stepping.specs.declared.Next.TheVariants as next
 
@@ -45,7 +45,7 @@ module _ (bs : List ℕ) (index l B start count at : ℕ) where
   unfolding next_outcome answer_of
   next_refused r q h e = rw h (ap next.Refused e)
 
-  module _ (a : l ≤ chunk) (b : index ≤ max_index) (t : Bool) (c : t ≡ block_allowed B) (d : t ≡ true) (m : ℕ) (k : checked (check_outcome bs) ≡ Accepted m) (from end : ℕ)
+  module _ (a : l ≤ chunk) (b : index ≤ max_index) (t : Bool) (c : t ≡ block_allowed B) (d : t ≡ true) (m : ℕ) (k : checked (check_outcome bs) ≡ Ok m) (from end : ℕ)
       (cut : Cut l start count from end) where
     answers : (s : Step) → step ≡ s → said_next s ≡ next_answer outcome
     unfolding next_outcome answer_of

@@ -30,7 +30,7 @@ use Rattle.stepping.proofs.Laws.Leads.{step_piece}
 use Rattle.stepping.proofs.Laws.Steps.{finished_stays}
 use Rattle.slices.specs.declared.Record.{Record}
 use Rattle.joined.specs.declared.ListRefusal.{ListRefusal}
-use Rattle.joined.specs.declared.CheckedLists.TheVariants.{Accepted}
+use Rattle.std.specs.Prelude.{Ok}
 use Rattle.plans.specs.declared.Piece.{Piece}
 use Rattle.stepping.specs.declared.FileNext.TheVariants as file
 
@@ -87,7 +87,7 @@ module _ (bs ns : List ℕ) (first file_len B start count at : ℕ) where
   unfolding next_file_outcome answer_of
   next_file_refused r q h e = rw h (ap file.Refused e)
 
-  module _ (a : wrong_chunks ns (length bs) first ≡ false) (b : block_allowed B ≡ true) (m : ℕ) (k : checked_lists (lists_outcome first (parts ns bs)) ≡ Accepted m) (from end : ℕ)
+  module _ (a : wrong_chunks ns (length bs) first ≡ false) (b : block_allowed B ≡ true) (m : ℕ) (k : checked_lists (lists_outcome first (parts ns bs)) ≡ Ok m) (from end : ℕ)
       (cut : Cut (file_end first file_len m) start count from end) where
     answers : (s : Step) → step ≡ s → said_file_next s ≡ next_file_answer outcome
     unfolding next_file_outcome answer_of

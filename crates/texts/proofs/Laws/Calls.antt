@@ -13,8 +13,7 @@ use Rattle.outcomes.specs.Numbers.{not_of_form, short_buffer}
 use Rattle.outcomes.specs.Outcome.{Outcome, refused, done, refusal, first_of, too_short}
 use Rattle.outcomes.specs.Answers.{Answers}
 use Rattle.outcomes.specs.declared.Refusal.{Refusal}
-use Rattle.outcomes.specs.declared.Answer.{Answer}
-use Rattle.outcomes.specs.declared.Answer.TheVariants.{Wrote, Refused}
+use Rattle.std.specs.Prelude.{Result, Ok, Err}
 use Rattle.outcomes.proofs.Laws.Answers.{answers_refused, answers_done}
 use Rattle.texts.specs.Parts.{Scan, found, stop}
 use Rattle.texts.specs.Calls.{write_text, reading, WriterRefuses}
@@ -72,21 +71,21 @@ module _ (allowed : Bool) (text : List ℕ) (room : ℕ) where
       go false u h e = let z : ◌≡◌ {A = ℕ} 0 1 = cc in absurd (omega arith)
 
 -- what a call that writes answers, case by case
-pub answers_not : (allowed : Bool) (text out : List ℕ) (r : Refusal) → allowed ≡ false → r ≡ refusal not_of_form 0 → Answers (write_text allowed text (length out)) out (Refused r) out
+pub answers_not : (allowed : Bool) (text out : List ℕ) (r : Refusal) → allowed ≡ false → r ≡ refusal not_of_form 0 → Answers (write_text allowed text (length out)) out (Err r) out
 answers_not allowed text out r e n = answers_refused _ r out (write_not allowed text (length out) e ∙ ap refused (sym n))
 
-pub answers_line : (allowed : Bool) (text line out after : List ℕ) (a : Answer) → allowed ≡ true → line ≡ text
+pub answers_line : (allowed : Bool) (text line out after : List ℕ) (a : Result ℕ Refusal) → allowed ≡ true → line ≡ text
     → Answers (first_of (too_short line (length out) ∷ []) (done line)) out a after → Answers (write_text allowed text (length out)) out a after
 answers_line allowed text line out after a e l r = rw (write_room allowed text (length out) e, ← l) r
 
 -- the buffer is too short for an allowed text
 pub answers_short : (allowed : Bool) (text out : List ℕ) (r : Refusal) → allowed ≡ true → length out < length text → r ≡ refusal short_buffer 0
-    → Answers (write_text allowed text (length out)) out (Refused r) out
+    → Answers (write_text allowed text (length out)) out (Err r) out
 answers_short allowed text out r e h n = answers_refused _ r out ((write_12 allowed text (length out)).1 (e, h) ∙ ap refused (sym n))
 
 -- an allowed text was put straight into the buffer
 pub answers_put : (allowed : Bool) (text out after : List ℕ) (room n : ℕ) → allowed ≡ true → length text ≤ length out → Puts out 0 text room n after
-    → Answers (write_text allowed text (length out)) out (Wrote n) after
+    → Answers (write_text allowed text (length out)) out (Ok n) after
 answers_put allowed text out after room n e h p =
     answers_done _ text out after n ((write_done allowed text (length out)).1 (e, h)) (omega (arith, p.ends)) p.leaves
 

@@ -33,7 +33,7 @@ use Rattle.views.proofs.Laws.ViewSource.{view_divides}
 use Rattle.slices.specs.declared.Record.{Record}
 use Rattle.slices.specs.declared.Source.{Source}
 use Rattle.slices.specs.declared.Source.TheVariants.{Nothing, Zero, Byte}
-use Rattle.outcomes.specs.declared.Answer.TheVariants.{Wrote}
+use Rattle.std.specs.Prelude.{Ok}
 
 -- ---- as records
 
@@ -114,7 +114,7 @@ module _ (bs : List ℕ) (b : Bytes bs) where
           ∙ rw (le-ltb max_records (count (view_bytes bs l)) (omega arith))
 
   -- of the bytes that the call wrote
-  pub view_wrote_again : (l : ℕ) (before after : List ℕ) (n : ℕ) → Answers (view_outcome bs l (length before)) before (Wrote n) after → AgainBytes bs (take n after) l
+  pub view_wrote_again : (l : ℕ) (before after : List ℕ) (n : ℕ) → Answers (view_outcome bs l (length before)) before (Ok n) after → AgainBytes bs (take n after) l
   view_wrote_again l before after n a =
       let w = view_wrote bs b l before after n a in
       rw w.2.front (view_again_bytes w.0 l w.1)

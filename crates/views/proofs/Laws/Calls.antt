@@ -20,7 +20,7 @@ use Rattle.views.specs.Calls.{max_tidied, tidied_too_long, view_bytes, view_rows
 use Rattle.views.specs.Inner.{view_from, too_long, runs_outcome}
 use Rattle.views.proofs.Laws.ViewFrom.{view_from-view, view_from-tidied}
 use Rattle.outcomes.specs.declared.Refusal.{Refusal}
-use Rattle.slices.specs.declared.Checked.TheVariants.{Accepted, Refused}
+use Rattle.std.specs.Prelude.{Ok, Err}
 
 -- ---- view
 
@@ -30,11 +30,11 @@ module _ (bs : List ℕ) (l room : ℕ) where
   view_7 h = row_holds _ _ _ _ _ (lt-ltb chunk l h)
 
   module _ (h : l ≤ chunk) where
-    pub view_refused : (r : Refusal) → checked (check_outcome bs) ≡ Refused r → view_outcome bs l room ≡ refused r
+    pub view_refused : (r : Refusal) → checked (check_outcome bs) ≡ Err r → view_outcome bs l room ≡ refused r
     unfolding view_outcome view_rows chunk_too_long
     view_refused r e = row_passes _ _ _ _ _ (le-ltb chunk l h) ∙ list_stops bs _ _ r e
 
-    pub view_accepted : (n : ℕ) → checked (check_outcome bs) ≡ Accepted n → view_outcome bs l room ≡ delivered (encode_all (view_from true (records bs) 0 l)) room
+    pub view_accepted : (n : ℕ) → checked (check_outcome bs) ≡ Ok n → view_outcome bs l room ≡ delivered (encode_all (view_from true (records bs) 0 l)) room
     unfolding view_outcome view_rows chunk_too_long view_bytes
     view_accepted n e = row_passes _ _ _ _ _ (le-ltb chunk l h) ∙ list_lets bs _ _ n e ∙ rw (view_from-view (records bs) l)
 
@@ -54,11 +54,11 @@ module _ (bs : List ℕ) (l room : ℕ) where
 -- ---- tidy
 
 module _ (bs : List ℕ) (room : ℕ) where
-  pub tidy_refused : (r : Refusal) → checked (check_outcome bs) ≡ Refused r → tidy_outcome bs room ≡ refused r
+  pub tidy_refused : (r : Refusal) → checked (check_outcome bs) ≡ Err r → tidy_outcome bs room ≡ refused r
   unfolding tidy_outcome tidy_rows
   tidy_refused r e = list_stops bs _ _ r e
 
-  module _ (n : ℕ) (e : checked (check_outcome bs) ≡ Accepted n) where
+  module _ (n : ℕ) (e : checked (check_outcome bs) ≡ Ok n) where
     pub tidy_11 : max_tidied < length (view_from false (records bs) 0 chunk) → tidy_outcome bs room ≡ refused (refusal number.tidied_too_long 0)
     unfolding tidy_outcome tidy_rows tidied_too_long
     tidy_11 h = list_lets bs _ _ n e ∙ row_holds _ _ _ _ _ (rw (← view_from-tidied (records bs)) (lt-ltb max_tidied (length (view_from false (records bs) 0 chunk)) h))
@@ -94,7 +94,7 @@ module _ (all : Bool) (bs : List ℕ) (end room count : ℕ) (e : count ≡ leng
       let f : too_long all (length vs) ≡ false = rw (← e) h in
       row_passes (too_long all (length vs)) number.tidied_too_long 0 (delivered (encode_all vs) room) [] f
 
-module _ (bs : List ℕ) (n : ℕ) (e : checked (check_outcome bs) ≡ Accepted n) (room : ℕ) where
+module _ (bs : List ℕ) (n : ℕ) (e : checked (check_outcome bs) ≡ Ok n) (room : ℕ) where
   pub view_runs_lem : (l : ℕ) → l ≤ chunk → view_outcome bs l room ≡ runs_outcome true bs l room
   unfolding too_long
   view_runs_lem l h = view_accepted bs l room h n e ∙ sym (runs_accepted true bs l room (length (view_from true (records bs) 0 l)) refl refl)

@@ -26,7 +26,7 @@ use Rattle.views.specs.View.{view, tidied, tidied_bytes}
 use Rattle.views.specs.Calls.{tidied_too_long, tidy_rows, tidy_outcome}
 use Rattle.views.proofs.Laws.Fits.{view_sized, tidied_sized, tidied_passes, tidied_fits}
 use Rattle.slices.specs.declared.Record.{Record}
-use Rattle.outcomes.specs.declared.Answer.TheVariants.{Wrote}
+use Rattle.std.specs.Prelude.{Ok}
 
 pub view_one_size : (rs : List Record) → OneSize rs → (l : ℕ) → l ≤ chunk → OneSize (view rs l)
 view_one_size rs h l c = table_one_size (sizes_of rs) (view rs l) (view_sized (sizes_of rs) rs (one_size_table rs h) l c)
@@ -69,7 +69,7 @@ module _ (bs : List ℕ) (b : Bytes bs) where
       let later = all_right (λ (r : Row). r.test ≡ false) (list_rows bs) _ none in
       rw (done_is (tidied_bytes (records bs)) (tidy_rows bs room) ts e) (tidied_accepted list (ltb-false max_records (length (tidied (records bs))) later.0))
 
-  pub tidied_wrote_accepted : (before after : List ℕ) (n : ℕ) → Answers (tidy_outcome bs (length before)) before (Wrote n) after → Accepts (take n after)
+  pub tidied_wrote_accepted : (before after : List ℕ) (n : ℕ) → Answers (tidy_outcome bs (length before)) before (Ok n) after → Accepts (take n after)
   tidied_wrote_accepted before after n a =
       let w = said_wrote (tidy_outcome bs (length before)) before after n a in
       rw w.first.front (tidied_done_accepted (length before) w.bytes w.outcome)

@@ -16,7 +16,7 @@ use Rattle.outcomes.proofs.Laws.Answers.{answers_refusal, answers_done}
 use Rattle.slices.proofs.Laws.Record.{length-encode_all}
 use Rattle.outcomes.specs.Numbers as number
 use Rattle.outcomes.specs.Outcome.{refusal, delivered}
-use Rattle.outcomes.specs.declared.Answer.TheVariants.{Wrote, Refused}
+use Rattle.std.specs.Prelude.{Ok, Err}
 use Rattle.outcomes.specs.declared.Refusal.{Refusal}
 use Rattle.resolve.specs.Resolved.{Resolved}
 use Rattle.views.specs.Calls.{max_tidied}
@@ -46,7 +46,7 @@ module _ (all : Bool) (bs marks tops : List ℕ) (m end room : ℕ) (r : Resolve
       omega (arith, length-encode_all vs, view_few bs marks tops m r all end g, y.fits)
 
   pub roomy_answers : (out after : List ℕ) (n : ℕ) → n ≡ length (encode_all (view_from all (records bs) 0 end))
-      → after ≡ splice out 0 (encode_all (view_from all (records bs) 0 end)) → Answers (runs_outcome all bs end room) out (Wrote n) after
+      → after ≡ splice out 0 (encode_all (view_from all (records bs) 0 end)) → Answers (runs_outcome all bs end room) out (Ok n) after
   roomy_answers out after n e a =
       let vs = view_from all (records bs) 0 end in
       answers_done (runs_outcome all bs end room) (encode_all vs) out after n
@@ -60,18 +60,18 @@ module _ (all : Bool) (bs : List ℕ) (end : ℕ) (out out' : List ℕ) (same : 
   counted = ap (λ (k : ℕ). k / record_size) (e ∙ length-encode_all (view_from all (records bs) 0 end)) ∙ mul-div_cancel (length (view_from all (records bs) 0 end)) (omega arith)
 
   pub counted_long : (t : Bool) → t ≡ too_long all (need / record_size) → t ≡ true → (r : Refusal) → r ≡ refusal number.tidied_too_long 0
-      → Answers (runs_outcome all bs end (length out)) out (Refused r) out'
+      → Answers (runs_outcome all bs end (length out)) out (Err r) out'
   counted_long t h k r g = rw same (answers_refusal _ _ _ _ (runs_11 all bs end (length out) (need / record_size) counted (sym h ∙ k)) g)
 
   module _ (t : Bool) (h : t ≡ too_long all (need / record_size)) (k : t ≡ false) where
     delivers : runs_outcome all bs end (length out) ≡ delivered (encode_all (view_from all (records bs) 0 end)) (length out)
     delivers = runs_accepted all bs end (length out) (need / record_size) counted (sym h ∙ k)
 
-    pub counted_short : length out' < need → (r : Refusal) → r ≡ refusal number.short_buffer 0 → Answers (runs_outcome all bs end (length out)) out (Refused r) out'
+    pub counted_short : length out' < need → (r : Refusal) → r ≡ refusal number.short_buffer 0 → Answers (runs_outcome all bs end (length out)) out (Err r) out'
     counted_short l r g = rw same (answers_refusal _ _ _ _ (delivers ∙ short_refused (encode_all (view_from all (records bs) 0 end)) (length out) (omega (arith, e, ap length same))) g)
 
     pub counted_done : need ≤ length out' → (after : List ℕ) (n : ℕ) → n ≡ length (encode_all (view_from all (records bs) 0 end))
-        → after ≡ splice out' 0 (encode_all (view_from all (records bs) 0 end)) → Answers (runs_outcome all bs end (length out)) out (Wrote n) after
+        → after ≡ splice out' 0 (encode_all (view_from all (records bs) 0 end)) → Answers (runs_outcome all bs end (length out)) out (Ok n) after
     counted_done l after n f a =
         answers_done _ _ _ _ _ (delivers ∙ short_done (encode_all (view_from all (records bs) 0 end)) (length out) (omega (arith, e, ap length same))) (sym f)
         (a ∙ ap (λ (o : List ℕ). splice o 0 (encode_all (view_from all (records bs) 0 end))) same)

@@ -26,7 +26,7 @@ use Rattle.views.specs.Calls.{view_bytes, view_rows, view_outcome}
 use Rattle.views.proofs.Laws.Fits.{view_records_fit}
 use Rattle.views.proofs.Laws.ViewSource.{view_source}
 use Rattle.slices.specs.declared.Record.{Record}
-use Rattle.outcomes.specs.declared.Answer.TheVariants.{Wrote}
+use Rattle.std.specs.Prelude.{Ok}
 
 -- L = 0 gives no records
 pub view_none : (rs : List Record) → view rs 0 ≡ []
@@ -55,7 +55,7 @@ module _ (bs : List ℕ) (b : Bytes bs) where
 
   -- where the call succeeds, the list is accepted, and the view's bytes are those that it wrote, as many as it counted: read back they are the
   -- view, and give each position its source
-  module _ (l : ℕ) (before after : List ℕ) (n : ℕ) (a : Answers (view_outcome bs l (length before)) before (Wrote n) after) where
+  module _ (l : ℕ) (before after : List ℕ) (n : ℕ) (a : Answers (view_outcome bs l (length before)) before (Ok n) after) where
     pub view_wrote : Accepts bs × (l ≤ chunk) × Front (view_bytes bs l) n after
     view_wrote =
         let w = said_wrote (view_outcome bs l (length before)) before after n a in

@@ -10,7 +10,7 @@ use Rattle.joined.specs.Lists.{parts}
 use Rattle.plans.specs.Inner.{Shifts}
 use Rattle.plans.proofs.Laws.Shifts.{shifts_some}
 use Rattle.files.specs.Inner.{bytes_of}
-use Rattle.files.specs.declared.FileAnswer.TheVariants.{Wrote, Refused}
+use Rattle.std.specs.Prelude.{Ok, Err}
 use Rattle.files.proofs.Laws.Walk.{bytes_room}
 use Rattle.files.proofs.rooms.answer.Goals as goal
 use Rattle.files.proofs.rooms.answer.Goals.{After-bits_of-bits, Start, Then-roomy}
@@ -37,7 +37,7 @@ in_room-requires c =
 
 pub returns-then-roomy : goal.returns-then-roomy
 returns-then-roomy c =
-    delivered_room _ (bytes (goal.at.returns-then-roomy c).Start) c.args.out.now Refused Wrote (fits (goal.at.returns-then-roomy c).Then-roomy) _ _ c.in_room.ensures.value c.in_room.ensures.out_after
+    delivered_room _ (bytes (goal.at.returns-then-roomy c).Start) c.args.out.now Err Ok (fits (goal.at.returns-then-roomy c).Then-roomy) _ _ c.in_room.ensures.value c.in_room.ensures.out_after
 
 pub in_room-need-requires : goal.in_room-need-requires
 in_room-need-requires c =
@@ -45,7 +45,7 @@ in_room-need-requires c =
 
 pub returns-then-out-need : goal.returns-then-out-need
 returns-then-out-need c =
-    rw c.refused.ensures (counted_short _ (bytes (goal.at.returns-then-out-need c).Start) c.args.out.now Refused Wrote _ c.in_room-need.ensures.out_after _ c.in_room-need.ensures.value c.if-out-need.true _ refl)
+    rw c.refused.ensures (counted_short _ (bytes (goal.at.returns-then-out-need c).Start) c.args.out.now Err Ok _ c.in_room-need.ensures.out_after _ c.in_room-need.ensures.value c.if-out-need.true _ refl)
 
 pub in_room-requires-2 : goal.in_room-requires-2
 in_room-requires-2 c =
@@ -53,4 +53,4 @@ in_room-requires-2 c =
 
 pub returns : goal.returns
 returns c =
-    counted_done _ (bytes (goal.at.returns c).Start) c.args.out.now Refused Wrote _ c.in_room-need.ensures.out_after _ c.in_room-need.ensures.value c.if-out-need.false _ _ c.in_room-2.ensures.value c.in_room-2.ensures.out_after
+    counted_done _ (bytes (goal.at.returns c).Start) c.args.out.now Err Ok _ c.in_room-need.ensures.out_after _ c.in_room-need.ensures.value c.if-out-need.false _ _ c.in_room-2.ensures.value c.in_room-2.ensures.out_after

@@ -8,7 +8,7 @@ use mathlib.Core.List.{List}
 use lib.ListN.{length}
 use Rattle.codec.specs.Splice.{splice}
 use Rattle.outcomes.proofs.Laws.Delivery.{delivered_room, counted_short, counted_done}
-use Rattle.outcomes.specs.declared.Answer.TheVariants.{Wrote, Refused}
+use Rattle.std.specs.Prelude.{Ok, Err}
 use Rattle.runs.specs.Runs.{Run}
 use Rattle.slices.specs.Limits.{chunk}
 use Rattle.slices.specs.Record.{records}
@@ -60,7 +60,7 @@ walk_pieces-requires c =
 
 pub returns-then-roomy : goal.returns-then-roomy
 returns-then-roomy c =
-    delivered_room _ (bytes (goal.at.returns-then-roomy c).Start) c.args.out.now Refused Wrote (fits (goal.at.returns-then-roomy c).Then-roomy) _ _ (counts (goal.at.returns-then-roomy c).Start _ c.walk_pieces.ensures.value) (writes (goal.at.returns-then-roomy c).Start _ _ c.walk_pieces.ensures.out_after)
+    delivered_room _ (bytes (goal.at.returns-then-roomy c).Start) c.args.out.now Err Ok (fits (goal.at.returns-then-roomy c).Then-roomy) _ _ (counts (goal.at.returns-then-roomy c).Start _ c.walk_pieces.ensures.value) (writes (goal.at.returns-then-roomy c).Start _ _ c.walk_pieces.ensures.out_after)
 
 pub walk_pieces-need-requires : goal.walk_pieces-need-requires
 walk_pieces-need-requires c =
@@ -68,7 +68,7 @@ walk_pieces-need-requires c =
 
 pub returns-then-out-need : goal.returns-then-out-need
 returns-then-out-need c =
-    counted_short _ (bytes (goal.at.returns-then-out-need c).Start) c.args.out.now Refused Wrote _ c.walk_pieces-need.ensures.out_after _ (counts (goal.at.returns-then-out-need c).Start _ c.walk_pieces-need.ensures.value) c.if-out-need.true _ c.refusal.ensures
+    counted_short _ (bytes (goal.at.returns-then-out-need c).Start) c.args.out.now Err Ok _ c.walk_pieces-need.ensures.out_after _ (counts (goal.at.returns-then-out-need c).Start _ c.walk_pieces-need.ensures.value) c.if-out-need.true _ c.refusal.ensures
 
 pub walk_pieces-requires-2 : goal.walk_pieces-requires-2
 walk_pieces-requires-2 c =
@@ -76,5 +76,5 @@ walk_pieces-requires-2 c =
 
 pub returns : goal.returns
 returns c =
-    counted_done _ (bytes (goal.at.returns c).Start) c.args.out.now Refused Wrote _ c.walk_pieces-need.ensures.out_after _ (counts (goal.at.returns c).Start _ c.walk_pieces-need.ensures.value) c.if-out-need.false _ _
+    counted_done _ (bytes (goal.at.returns c).Start) c.args.out.now Err Ok _ c.walk_pieces-need.ensures.out_after _ (counts (goal.at.returns c).Start _ c.walk_pieces-need.ensures.value) c.if-out-need.false _ _
     (counts (goal.at.returns c).Start _ c.walk_pieces-2.ensures.value) (writes (goal.at.returns c).Start _ _ c.walk_pieces-2.ensures.out_after)

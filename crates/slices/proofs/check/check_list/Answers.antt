@@ -4,18 +4,18 @@ use mathlib.Core.Path.{ap}
 use borrow.Author.Tests.{eq-eqb, ne_eqb}
 use Rattle.outcomes.specs.Answers.{answer_of}
 use Rattle.slices.specs.Record.{count}
-use Rattle.slices.specs.declared.Checked.TheVariants.{Refused}
+use Rattle.std.specs.Prelude.{Err}
 use Rattle.slices.proofs.Laws.Refusals.{check_1, check_2, check_start}
 use Rattle.slices.proofs.check.check_list.Goals as goal
 
 pub returns-then-list-ne0 : goal.returns-then-list-ne0
 unfolding answer_of
-returns-then-list-ne0 c = rw (check_1 c.args.list.now c.if-list-ne0.true) (ap Refused c.refusal.ensures)
+returns-then-list-ne0 c = rw (check_1 c.args.list.now c.if-list-ne0.true) (ap Err c.refusal.ensures)
 
 pub returns-then-n-gt-RECORDS : goal.returns-then-n-gt-RECORDS
 unfolding answer_of count
 returns-then-n-gt-RECORDS c =
-    rw (check_2 c.args.list.now c.if-list-ne0.false c.if-n-gt-RECORDS.true) (ap Refused c.refusal-then-n-gt-RECORDS.ensures)
+    rw (check_2 c.args.list.now c.if-list-ne0.false c.if-n-gt-RECORDS.true) (ap Err c.refusal-then-n-gt-RECORDS.ensures)
 
 pub refused_at-place-requires : goal.refused_at-place-requires
 unfolding count

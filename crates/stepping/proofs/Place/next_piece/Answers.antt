@@ -4,7 +4,7 @@ use mathlib.Core.Path.{◌≡◌, refl, sym, ◌∙◌}
 use mathlib.Core.Bool.{true}
 use Rattle.slices.specs.Limits.{chunk}
 use Rattle.slices.specs.Refusals.{check_outcome, checked}
-use Rattle.slices.specs.declared.Checked.TheVariants.{Accepted}
+use Rattle.std.specs.Prelude.{Ok}
 use Rattle.slices.proofs.Laws.Refusals.{check_accepts}
 use Rattle.blocks.specs.Blocks.{block_allowed}
 use Rattle.blocks.proofs.Laws.Blocks.{block_range}
@@ -14,7 +14,7 @@ use Rattle.stepping.proofs.Place.next_piece.Goals as goal
 use Rattle.stepping.proofs.Place.next_piece.Goals.{In-Accepted, Then-block_allowed}
 
 -- the list is accepted
-accepted : (c : In-Accepted) → checked (check_outcome c.args.list.now) ≡ Accepted c.in-Accepted.field-0
+accepted : (c : In-Accepted) → checked (check_outcome c.args.list.now) ≡ Ok c.in-Accepted.field-0
 accepted c = sym c.check_list.ensures ∙ c.in-Accepted.is
 
 -- the block size is allowed
