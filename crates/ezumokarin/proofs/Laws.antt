@@ -15,11 +15,10 @@ use Rattle.compaction.specs.Calls.{Both, compact_answer}
 use Rattle.ezumokarin.specs.Compact.{wrote_both, plain_compacted}
 use Rattle.joined.specs.declared.ListRefusal.{ListRefusal}
 use Rattle.files.specs.Calls.{wrote_many}
-use Rattle.std.specs.Prelude.{Err}
+use Rattle.std.specs.Prelude.{Option, Ok, Err}
 use Rattle.ezumokarin.specs.Files.{wrote_file, plain_file}
 use Rattle.history.specs.History.{history_outcome, told, part_for, added_part}
 use Rattle.history.proofs.Laws.Calls.{no_shorter}
-use Rattle.history.specs.declared.WasRewritten.TheVariants.{No}
 use Rattle.ezumokarin.specs.Changes.{part_in, plain_part}
 use Rattle.keys.specs.Keys.{Chunk as ChunkOf, chunk_answer}
 use Rattle.names.specs.Names.{Object as ObjectOf, Full, object_answer, full_answer, volume_part}
@@ -31,12 +30,12 @@ use Rattle.judging.specs.Calls.{said, judge_answer}
 use Rattle.judging.specs.Judge.{Verdict, accepted, piece, byte}
 use Rattle.ezumokarin.specs.Judges.{plain_verdict, judged_plan, plain_judged}
 use Rattle.stepping.specs.Step.{Step, given, finished}
-use Rattle.stepping.specs.Calls.{said_next, next_answer, said_file_next, next_file_answer}
+use Rattle.stepping.specs.Calls.{as_given, next_answer, next_file_answer}
 use Rattle.ezumokarin.specs.Steps.{plain_step, in_file, stepped, stepped_file, plain_next, plain_file_next}
-use Rattle.ezumokarin.specs.Plain.{counted, wrote, plain_checked, plain_answer}
+use Rattle.ezumokarin.specs.Plain.{counted, wrote, plain_answer}
 
-pub plain_counted : (o : Outcome ℕ) → plain_checked (checked o) ≡ counted o
-unfolding plain_checked answer_of counted
+pub plain_counted : (o : Outcome ℕ) → plain_answer (checked o) ≡ counted o
+unfolding plain_answer answer_of counted
 plain_counted (refused r) = refl
 plain_counted (done n) = refl
 
@@ -78,7 +77,7 @@ plain_both (done w) = refl
 
 -- ---- a search
 
-pub plain_sought_lem : (o : Outcome FoundOf) → plain_sought (sought o) ≡ found_in o
+pub plain_sought_lem : (o : Outcome (Option FoundOf)) → plain_sought (sought o) ≡ found_in o
 unfolding plain_sought answer_of found_in
 plain_sought_lem (refused r) = refl
 plain_sought_lem (done f) = refl
@@ -91,7 +90,7 @@ module _ (older newer : List ℕ) where
   unfolding added_part part_for plain_part answer_of part_in
   plain_part_lem = go (history_outcome older newer) (no_shorter older newer)
     where
-      go : (o : Outcome Bool) → (told o ≡ No → length older ≤ length newer)
+      go : (o : Outcome Bool) → (told o ≡ Ok false → length older ≤ length newer)
           → plain_part (told o) (length newer - length (part_for o older newer)) (length (part_for o older newer)) ≡ part_in o (length older) (length newer)
       go (refused r) h = refl
       go (done true) h = rw sub_self
@@ -112,8 +111,8 @@ module _ (older newer : List ℕ) where
 
 -- ---- pieces one at a time
 
-said_next_lem : (s : Step) (at : ℕ) → plain_next (said_next s) at ≡ plain_step s at
-unfolding said_next plain_next plain_step
+said_next_lem : (s : Step) (at : ℕ) → plain_next (Ok (as_given s)) at ≡ plain_step s at
+unfolding as_given plain_next plain_step
 said_next_lem (given p to) at = refl
 said_next_lem finished at = refl
 
@@ -122,8 +121,8 @@ unfolding plain_next answer_of stepped
 plain_next_lem (refused r) at = refl
 plain_next_lem (done s) at = said_next_lem s at
 
-said_file_next_lem : (s : Step) (at : ℕ) → plain_file_next (said_file_next s) at ≡ in_file 0 (plain_step s at)
-unfolding said_file_next plain_file_next plain_step
+said_file_next_lem : (s : Step) (at : ℕ) → plain_file_next (Ok (as_given s)) at ≡ in_file 0 (plain_step s at)
+unfolding as_given plain_file_next plain_step
 said_file_next_lem (given p to) at = refl
 said_file_next_lem finished at = refl
 

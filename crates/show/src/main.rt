@@ -7,37 +7,27 @@ ghost use Rattle.listing.specs.Listing.{file_limit};
 ghost use Rattle.show.specs.Inner.{Within, Holds};
 
 use std::fs::File;
+use std::io;
 use std::io::Read;
 
-// What reading a file gave: how many bytes it has, that it has more than the buffer holds, or that it could not be read.
-#[derive(Clone, Copy)]
-pub enum Input {
-    Whole(usize),
-    Longer,
-    Failed,
-}
-
-// Reads a whole file into a buffer, and asks for one byte more once the buffer is full.
-fn read_file<R: Read>(file: &mut R, buf: &mut [u8]) -> Input
+// Reads a whole file into a buffer, and asks for one byte more once the buffer is full: how many bytes it has, or none where these are more than the
+// buffer holds.
+fn read_file<R: Read>(file: &mut R, buf: &mut [u8]) -> io::Result<Option<usize>>
     ensures within { Within (length buf.new) result }
     ensures bytes { Holds (R.remaining file.old) buf.new result }
 {
     let mut done = 0;
     while done < buf.len() {
-        let n = match file.read(&mut buf[done..]) {
-            Ok(n) => n,
-            Err(_) => return Input::Failed,
-        };
+        let n = file.read(&mut buf[done..])?;
         if n == 0 {
-            return Input::Whole(done);
+            return Ok(Some(done));
         }
         done += n;
     }
     let mut more = [0u8; 1];
-    match file.read(&mut more) {
-        Ok(0) => Input::Whole(done),
-        Ok(_) => Input::Longer,
-        Err(_) => Input::Failed,
+    match file.read(&mut more)? {
+        0 => Ok(Some(done)),
+        _ => Ok(None),
     }
 }
 
@@ -81,8 +71,8 @@ fn main(rt: HostRuntime) {
     drop(file);
     let mut text = text_buffer();
     match input {
-        Input::Whole(n) => print(&rt, &list[..n], false, &mut text),
-        Input::Longer => print(&rt, &list, true, &mut text),
-        Input::Failed => put(&rt, b"no list\n"),
+        Ok(Some(n)) => print(&rt, &list[..n], false, &mut text),
+        Ok(None) => print(&rt, &list, true, &mut text),
+        Err(_) => put(&rt, b"no list\n"),
     }
 }

@@ -26,12 +26,12 @@ unfoldable pub plan_pieces : List ℕ → (index l B start count : ℕ) → List
 plan_pieces bs index l B start count = map piece_in (map (in_chunk index 0) (read_plan B (records bs) l start count))
 
 -- a piece with the place behind it, if one is left
-unfoldable pub next_given : Step → Option Given
-next_given (given piece place) = Some (record { piece = piece; next = record { at = place } })
-next_given finished = None
+unfoldable pub as_given : Step → Option Given
+as_given (given piece place) = Some (record { piece = piece; next = record { at = place } })
+as_given finished = None
 
 abbrev pub next_answer : Outcome Step → Result (Option Given) Refusal
-next_answer o = answer_of Err (λ (s : Step). Ok (next_given s)) o
+next_answer o = answer_of Err (λ (s : Step). Ok (as_given s)) o
 
 -- ---- a read across the chunks of a file
 
@@ -45,4 +45,4 @@ unfoldable pub file_pieces : List ℕ → List ℕ → (first file_len B start c
 file_pieces bs lengths first file_len B start count = map piece_in (file_plan first B (lists_in bs lengths) file_len start count)
 
 abbrev pub next_file_answer : OutcomeOf ListRefusal Step → Result (Option Given) ListRefusal
-next_file_answer o = answer_of Err (λ (s : Step). Ok (next_given s)) o
+next_file_answer o = answer_of Err (λ (s : Step). Ok (as_given s)) o

@@ -20,13 +20,12 @@ use Rattle.slices.specs.Record.{encode_all, count, records}
 use Rattle.plans.specs.Piece.{chunk_bytes}
 use Rattle.plans.specs.Plan.{pieces}
 use Rattle.compaction.specs.Compaction.{compaction_plan, plan_bytes, new_list, new_list_bytes}
-use Rattle.compaction.specs.Calls.{both, delivered_both, Compacts}
+use Rattle.compaction.specs.Calls.{wrote, both, delivered_both, Compacts}
 use Rattle.compaction.specs.Inner.{stand_for, Ends}
 use Rattle.codec.proofs.Laws.All.{all_take}
 use Rattle.slices.proofs.Laws.Firsts.{encode-append, firsts_records, rest_bytes}
 use Rattle.compaction.proofs.Laws.Calls.{short_plan, short_list, room_for_both}
 use Rattle.outcomes.proofs.Laws.Answers.{replies_refused, replies_done, short_said, done_said}
-use Rattle.std.specs.Prelude.{Err}
 
 -- what is put behind what stands at the front
 pub put_behind : (out o₁ o₂ a b : List ℕ) (i : ℕ) → i ≡ length a → length a ≤ length out → o₁ ≡ splice out 0 a → o₂ ≡ splice o₁ i b → o₂ ≡ splice out 0 (a ++ b)
@@ -69,14 +68,14 @@ module _ (bs : List ℕ) (b : Bytes bs) (whole : length bs % record_size ≡ 0) 
         module _ (l : m + (length bs - k * record_size) ≤ length list) (plan' : List ℕ) (x : Result ℕ Refusal)
             (a : Answers (delivered (chunk_bytes index 0 (pieces B (records first_bytes) from (end - from))) (length plan)) plan x plan') where
           pub first_refused : (r : Refusal) → x ≡ Err r
-              → Compacts (delivered_both (both index B (records bs) k id) (length plan) (length list)) plan list (compacted.Refused r) plan' list
+              → Compacts (delivered_both (both index B (records bs) k id) (length plan) (length list)) plan list (Err r) plan' list
           unfolding both
           first_refused r e =
               let y = short_said (chunk_bytes index 0 (pieces B (records first_bytes) from (end - from))) plan plan' x a r e in
               replies_refused _ _ _ _ (short_plan (both index B (records bs) k id) (length plan) (length list) (omega (arith, ap length plan_is, y.0))) y.1 (y.2, (refl, tt))
 
           pub first_done : (n : ℕ) → x ≡ Ok n → (list' : List ℕ) → list' ≡ splice list 0 (encode_all (stand_for from end id) ++ drop (k * record_size) bs)
-              → Compacts (delivered_both (both index B (records bs) k id) (length plan) (length list)) plan list (compacted.Wrote n (m + (length bs - k * record_size))) plan' list'
+              → Compacts (delivered_both (both index B (records bs) k id) (length plan) (length list)) plan list (wrote n (m + (length bs - k * record_size))) plan' list'
           unfolding both
           first_done n e list' q =
               let y = done_said (chunk_bytes index 0 (pieces B (records first_bytes) from (end - from))) plan plan' x a n e in

@@ -9,16 +9,17 @@ use Rattle.blocks.specs.Blocks.{smallest, largest}
 use Rattle.blocks.proofs.Laws.Blocks.{block_range}
 use Rattle.compaction.proofs.Laws.Calls.{compact_21, compact_8, compact_refused, compact_accepted}
 use Rattle.outcomes.proofs.Laws.Answers.{replies_refused, replies_as}
+use Rattle.std.proofs.lemmas.Result.{err_from_is_err_and}
 use Rattle.compaction.proofs.compact.Goals as goal
-use Rattle.compaction.proofs.compact.Goals.{In-Accepted, Then-block_allowed}
+use Rattle.compaction.proofs.compact.Goals.{In_ok-check_list, Else-not-block_allowed}
 
 -- the list is accepted
-accepted : (c : In-Accepted) → checked (check_outcome c.args.list.now) ≡ Ok c.in-Accepted.field-0
-accepted c = sym c.check_list.ensures ∙ c.in-Accepted.is
+accepted : (c : In_ok-check_list) → checked (check_outcome c.args.list.now) ≡ Ok c.in_ok-check_list.field-0
+accepted c = sym c.check_list.ensures ∙ c.in_ok-check_list.was
 
 -- the block size is in range
-ranged : (c : Then-block_allowed) → (smallest ≤ c.args.block_size) × (c.args.block_size ≤ largest)
-ranged c = block_range _ (sym c.block_allowed.ensures ∙ c.if-block_allowed.true)
+ranged : (c : Else-not-block_allowed) → (smallest ≤ c.args.block_size) × (c.args.block_size ≤ largest)
+ranged c = block_range _ (sym c.block_allowed.ensures ∙ c.if-not-block_allowed.false)
 
 pub returns-then-index-gt-MAX_INDEX : goal.returns-then-index-gt-MAX_INDEX
 returns-then-index-gt-MAX_INDEX c =
@@ -27,24 +28,25 @@ returns-then-index-gt-MAX_INDEX c =
 pub overflow_cast-index : goal.overflow_cast-index
 overflow_cast-index c = omega (arith, c.if-index-gt-MAX_INDEX.false)
 
-pub overflow_cast-block_size : goal.overflow_cast-block_size
-overflow_cast-block_size c = omega (arith, ranged (goal.at.overflow_cast-block_size c).Then-block_allowed)
+pub overflow_cast-block : goal.overflow_cast-block
+overflow_cast-block c = omega (arith, ranged (goal.at.overflow_cast-block c).Else-not-block_allowed)
 
 pub compact_accepted-requires : goal.compact_accepted-requires
 compact_accepted-requires c =
-    let a = check_accepts _ _ (accepted (goal.at.compact_accepted-requires c).In-Accepted) in
-    record { accepts = a; block_value = sym c.block_allowed.ensures ∙ c.if-block_allowed.true }
+    let a = check_accepts _ _ (accepted (goal.at.compact_accepted-requires c).In_ok-check_list) in
+    record { accepts = a; block_value = sym c.block_allowed.ensures ∙ c.if-not-block_allowed.false }
 
-pub returns-in-Refused : goal.returns-in-Refused
-returns-in-Refused c =
-    replies_refused _ _ _ _ (compact_refused _ _ _ _ _ _ _ c.if-index-gt-MAX_INDEX.false _ c.block_allowed.ensures c.if-block_allowed.true _ (sym c.check_list.ensures ∙ c.in-Refused.is)) refl (refl, (refl, tt))
+pub returns-in_err-check_list : goal.returns-in_err-check_list
+returns-in_err-check_list c =
+    let p = err_from_is_err_and c.from_residual.result c.from_residual.ensures.1 in
+    rw (p.1, p.2) (replies_refused _ _ _ _ (compact_refused _ _ _ _ _ _ _ c.if-index-gt-MAX_INDEX.false _ c.block_allowed.ensures c.if-not-block_allowed.false _ (sym c.check_list.ensures ∙ c.in_err-check_list.was)) refl (refl, (refl, tt)))
 
-pub returns-in-Accepted : goal.returns-in-Accepted
-returns-in-Accepted c =
+pub returns : goal.returns
+returns c =
     replies_as _ _ _ _
-    (compact_accepted _ _ _ _ _ _ _ c.if-index-gt-MAX_INDEX.false _ c.block_allowed.ensures c.if-block_allowed.true _ (accepted (goal.at.returns-in-Accepted c).In-Accepted))
+    (compact_accepted _ _ _ _ _ _ _ c.if-index-gt-MAX_INDEX.false _ c.block_allowed.ensures c.if-not-block_allowed.false _ (accepted (goal.at.returns c).In_ok-check_list))
     c.compact_accepted.ensures
 
-pub returns-else-block_allowed : goal.returns-else-block_allowed
-returns-else-block_allowed c =
-    replies_refused _ _ _ _ (compact_8 _ _ _ _ _ _ _ c.if-index-gt-MAX_INDEX.false _ c.block_allowed.ensures c.if-block_allowed.false) c.refusal-else-block_allowed.ensures (refl, (refl, tt))
+pub returns-then-not-block_allowed : goal.returns-then-not-block_allowed
+returns-then-not-block_allowed c =
+    replies_refused _ _ _ _ (compact_8 _ _ _ _ _ _ _ c.if-index-gt-MAX_INDEX.false _ c.block_allowed.ensures c.if-not-block_allowed.true) c.refusal-then-not-block_allowed.ensures (refl, (refl, tt))

@@ -13,6 +13,7 @@ use Rattle.codec.proofs.Laws.All.{all_bytes}
 use Rattle.outcomes.proofs.Laws.Answers.{replies_refused}
 use Rattle.compaction.proofs.Laws.NewList.{stand_most}
 use Rattle.compaction.proofs.Laws.Delivery.{firsts_pass, firsts_few, first_short_list, first_refused, first_done}
+use Rattle.std.proofs.lemmas.Result.{err_from_is_err_and}
 use Rattle.compaction.proofs.compact_first.Goals as goal
 use Rattle.compaction.proofs.compact_first.Goals.{After-shared_slice_known-1}
 
@@ -56,10 +57,12 @@ unfolding count
 write_list-requires c =
     record { cut_in_bounds = omega (arith, c.requires.k_bound); cut_in_bounds_2 = omega (arith, c.stand_in_bytes.ensures, c.if-new_list-list_bytes.false) }
 
-pub returns-in-Refused : goal.returns-in-Refused
-returns-in-Refused c =
-    first_refused _ (bytes (goal.at.returns-in-Refused c).After-shared_slice_known-1) c.requires.accepts.whole _ c.requires.k_bound _ _ c.span-span.ensures _ _ c.args.new_id _ c.stand_in_bytes.ensures _ _ c.if-new_list-list_bytes.false _ _ c.planned.ensures _ c.in-Refused.is
+pub returns-in_err-plan_bytes : goal.returns-in_err-plan_bytes
+returns-in_err-plan_bytes c =
+    let p = err_from_is_err_and c.from_residual.result c.from_residual.ensures.1 in
+    rw (p.1, p.2)
+    (first_refused _ (bytes (goal.at.returns-in_err-plan_bytes c).After-shared_slice_known-1) c.requires.accepts.whole _ c.requires.k_bound _ _ c.span-span.ensures _ _ c.args.new_id _ c.stand_in_bytes.ensures _ _ c.if-new_list-list_bytes.false _ _ c.planned.ensures _ c.in_err-plan_bytes.was)
 
-pub returns-in-Wrote : goal.returns-in-Wrote
-returns-in-Wrote c =
-    first_done _ (bytes (goal.at.returns-in-Wrote c).After-shared_slice_known-1) c.requires.accepts.whole _ c.requires.k_bound _ _ c.span-span.ensures _ _ c.args.new_id _ c.stand_in_bytes.ensures _ _ c.if-new_list-list_bytes.false _ _ c.planned.ensures _ c.in-Wrote.is _ c.write_list.ensures
+pub returns : goal.returns
+returns c =
+    first_done _ (bytes (goal.at.returns c).After-shared_slice_known-1) c.requires.accepts.whole _ c.requires.k_bound _ _ c.span-span.ensures _ _ c.args.new_id _ c.stand_in_bytes.ensures _ _ c.if-new_list-list_bytes.false _ _ c.planned.ensures _ c.in_ok-plan_bytes.was _ c.write_list.ensures

@@ -2,7 +2,7 @@
 -- Assumes nothing.
 use Prim.Native.Nat.{ℕ, ◌^◌, ◌<◌}
 use native.Mathlib.Omega.{arith}
-use mathlib.Core.Path.{◌≡◌, refl, ◌∙◌}
+use mathlib.Core.Path.{◌≡◌, refl, ◌∙◌, ap}
 use mathlib.Core.Bool.{false}
 use mathlib.Core.List.{List}
 use lib.ListN.{length, take}
@@ -19,11 +19,18 @@ use Rattle.slices.proofs.Laws.Refusals.{none_accepts}
 use Rattle.views.specs.View.{tidied_bytes}
 use Rattle.views.specs.Calls.{tidy_rows, tidy_outcome}
 use Rattle.compaction.specs.Calls.{wrote, Both, both, later_rows, compact_rows, compact_outcome, Compacts}
+use Rattle.compaction.specs.declared.Compacted.{Compacted}
 use Rattle.compaction.specs.Compaction.{plan_bytes, new_list_bytes}
 use Rattle.compaction.proofs.Laws.Again.{compact_done_accepted}
 use Rattle.copying.specs.ThirdDemand.{Sound, Allowed}
 use Rattle.codec.proofs.Laws.All.{all_left, all_right}
 use Rattle.slices.proofs.Laws.Firsts.{records_fit}
+
+-- the two counts of an answer
+counts : (m n p q : ℕ) → wrote m n ≡ wrote p q → (m ≡ p) × (n ≡ q)
+counts m n p q h =
+    let c : ◌≡◌ {A = Compacted} (record { plan = m; list = n }) (record { plan = p; list = q }) = cc in
+    (ap (λ (x : Compacted). x.plan) c, ap (λ (x : Compacted). x.list) c)
 
 -- a list that is not refused is sound
 module _ (bs : List ℕ) (b : Bytes bs) where
@@ -67,10 +74,11 @@ module _ (bs : List ℕ) (b : Bytes bs) where
             → Allowed index B (records bs) k id × Front (plan_bytes index B (records bs) k) m plan' × Front (new_list_bytes (records bs) k id) n list'
         go (refused r) e a = let z : ◌≡◌ {A = ℕ} 0 1 = cc a.answers in absurd (omega arith)
         go (done b) e a =
-            let same = done_is (both index B (records bs) k id) rows b e in (
+            let same = done_is (both index B (records bs) k id) rows b e in
+            let said = counts m n _ _ a.answers in (
               allowed (done_none (both index B (records bs) k id) rows b e),
-              front_of plan plan' _ m (cc (a.answers, same)) (a.leaves.0 ∙ rw same),
-              front_of list list' _ n (cc (a.answers, same)) (a.leaves.1.0 ∙ rw same),
+              front_of plan plan' _ m (said.0 ∙ rw same) (a.leaves.0 ∙ rw same),
+              front_of list list' _ n (said.1 ∙ rw same) (a.leaves.1.0 ∙ rw same),
             )
 
     -- and the new list is accepted again
@@ -81,5 +89,5 @@ module _ (bs : List ℕ) (b : Bytes bs) where
         go : (o : Outcome Both) → compact_outcome bs index B k id (length plan) (length list) ≡ o → Compacts o plan list (wrote m n) plan' list' → Accepts (take n list')
         go (refused r) e a = let z : ◌≡◌ {A = ℕ} 0 1 = cc a.answers in absurd (omega arith)
         go (done w) e a =
-            let new = front_of list list' w.list n (cc a.answers) a.leaves.1.0 in
+            let new = front_of list list' w.list n (counts m n _ _ a.answers).1 a.leaves.1.0 in
             rw new.front (compact_done_accepted bs b index B k id (length plan) (length list) wide w e).1

@@ -7,11 +7,11 @@ use Rattle.std.specs.Prelude.{Ok}
 use mathlib.Core.Bool.{false}
 use Rattle.history.proofs.Laws.Calls.{no_shorter, part_no, part_yes, part_refused}
 use Rattle.history.proofs.part.Goals as goal
-use Rattle.history.proofs.part.Goals.{In-No}
+use Rattle.history.proofs.part.Goals.{In-Ok-false}
 
 -- the list was not rewritten
-not_rewritten : (c : In-No) → told (history_outcome c.args.older.now c.args.newer.now) ≡ Ok false
-not_rewritten c = sym c.requires ∙ c.in-No.is
+not_rewritten : (c : In-Ok-false) → told (history_outcome c.args.older.now c.args.newer.now) ≡ Ok false
+not_rewritten c = sym c.requires ∙ rw c.in-Ok-false.field-0-test at c.in-Ok-false.is
 
 pub slice_bounds-result-count : goal.slice_bounds-result-count
 slice_bounds-result-count c = no_shorter _ _ (not_rewritten c)
@@ -19,13 +19,13 @@ slice_bounds-result-count c = no_shorter _ _ (not_rewritten c)
 pub slice_bounds-result-start : goal.slice_bounds-result-start
 slice_bounds-result-start c = no_shorter _ _ (not_rewritten c)
 
-pub returns-in-No : goal.returns-in-No
-returns-in-No c =
+pub returns-in-Ok-false : goal.returns-in-Ok-false
+returns-in-Ok-false c =
     let a = c.args in
-    rest_whole a.newer.now (length a.older.now) ∙ sym (part_no _ _ (not_rewritten (goal.at.returns-in-No c).In-No))
+    rest_whole a.newer.now (length a.older.now) ∙ sym (part_no _ _ (not_rewritten (goal.at.returns-in-Ok-false c).In-Ok-false))
 
-pub returns-in-Yes : goal.returns-in-Yes
-returns-in-Yes c = sym (part_yes _ _ (sym c.requires ∙ c.in-Yes.is))
+pub returns-in-Ok-true : goal.returns-in-Ok-true
+returns-in-Ok-true c = sym (part_yes _ _ (sym c.requires ∙ rw c.in-Ok-true.field-0-test at c.in-Ok-true.is))
 
-pub returns-in-Refused : goal.returns-in-Refused
-returns-in-Refused c = sym (part_refused _ _ _ (sym c.requires ∙ c.in-Refused.is))
+pub returns-in-Err : goal.returns-in-Err
+returns-in-Err c = sym (part_refused _ _ _ (sym c.requires ∙ c.in-Err.is))

@@ -3,7 +3,7 @@ use mathlib.Core.Path.{◌≡◌, sym, ap, ◌∙◌}
 use mathlib.Core.Bool.{true, false}
 use native.Mathlib.Omega.{arith}
 use Rattle.keys.specs.Keys.{tkv_shape, chunk_answer}
-use Rattle.keys.specs.declared.ChunkKey.TheVariants.{Key, Refused}
+use Rattle.std.specs.Prelude.{Ok, Err}
 use Rattle.keys.proofs.Laws.Tkv.{shaped, read_shaped, read_unshaped}
 use Rattle.outcomes.specs.Answers.{answer_of}
 use Rattle.keys.proofs.read_tkv_key.Goals as goal
@@ -18,7 +18,7 @@ unfolding answer_of
 returns-then-not-tkv_shape c =
     let key = c.args.key.now in
     let e : tkv_shape key ≡ false = sym c.tkv_shape.ensures ∙ c.if-not-tkv_shape.true in
-    ap Refused c.refusal.ensures ∙ sym (ap chunk_answer (read_unshaped key e))
+    ap Err c.refusal.ensures ∙ sym (ap chunk_answer (read_unshaped key e))
 
 pub read_le64-requires : goal.read_le64-requires
 read_le64-requires c = let s = shaped c.args.key.now (right c) in omega arith
@@ -30,4 +30,4 @@ read_be32-requires c =
 pub returns : goal.returns
 unfolding answer_of
 returns c =
-    (λ i. Key (c.read_le64.ensures i) (c.read_be32.ensures i)) ∙ sym (ap chunk_answer (read_shaped c.args.key.now (right (goal.at.returns c).Else-not-tkv_shape)))
+    (λ i. Ok (record { inode = c.read_le64.ensures i; index = c.read_be32.ensures i })) ∙ sym (ap chunk_answer (read_shaped c.args.key.now (right (goal.at.returns c).Else-not-tkv_shape)))

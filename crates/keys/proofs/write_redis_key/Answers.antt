@@ -18,4 +18,4 @@ returns-then-out-i c =
 pub returns : goal.returns
 returns c =
     let a = c.args in
-    answers_put (chunk_allowed a.inode a.index) (redis_key a.inode a.index) a.out.now _ _ _ (chunk_allowed_lem a.inode a.index (record { inode = omega arith; index = c.if-index-gt-MAX_INDEX.false })) (omega (arith, redis_length_lem a.inode a.index, c.digits-i.ensures.0, c.digits-j.ensures.0, c.if-out-i.false)) c.put_redis-n.ensures
+    answers_put (chunk_allowed a.inode a.index) (redis_key a.inode a.index) a.out.now _ _ _ (chunk_allowed_lem a.inode a.index (record { inode = omega arith; index = c.if-index-gt-MAX_INDEX.false })) (omega (arith, redis_length_lem a.inode a.index, c.digits-i.ensures.0, c.digits-j.ensures.0, c.if-out-i.false)) c.put_redis.ensures

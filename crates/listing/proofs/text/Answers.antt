@@ -12,7 +12,7 @@ use Rattle.views.proofs.Laws.Calls.{view_fits}
 use Rattle.listing.specs.Listing.{file_limit}
 use Rattle.listing.proofs.Laws.Calls.{text_12, text_done, listing_longer, listing_refused, listing_view}
 use Rattle.listing.proofs.text.Goals as goal
-use Rattle.listing.proofs.text.Goals.{After-view, In-Wrote}
+use Rattle.listing.proofs.text.Goals.{After-view, In-Ok}
 
 -- the view was asked for with 65,536 bytes of room
 viewed : (c : After-view)
@@ -20,13 +20,13 @@ viewed : (c : After-view)
 viewed c = rw c.blank-view.ensures at c.view.ensures
 
 -- what the view wrote
-wrote : (c : In-Wrote)
-    → Written (view_outcome c.args.list.now 67108864 file_limit) c.in-Wrote.n c.view.new.out
+wrote : (c : In-Ok)
+    → Written (view_outcome c.args.list.now 67108864 file_limit) c.in-Ok.n c.view.new.out
 wrote c =
     let v : Answers (view_outcome c.args.list.now 67108864 file_limit) c.blank-view.result c.view.result c.view.new.out = rw c.blank-view.ensures at c.view.ensures in
-    said_wrote _ _ _ _ (rw c.in-Wrote.is at v)
+    said_wrote _ _ _ _ (rw c.in-Ok.is at v)
 
-room : (c : In-Wrote) → length (wrote c).bytes ≤ file_limit
+room : (c : In-Ok) → length (wrote c).bytes ≤ file_limit
 room c = (view_fits _ _ _ _ (wrote c).outcome).1
 
 pub returns-then-out-lt-TEXT : goal.returns-then-out-lt-TEXT
@@ -40,32 +40,32 @@ returns-then-longer c =
     let w = rw c.refusal-then-longer.ensures at c.put_refused.ensures in
     answers_done _ _ _ _ _ (e ∙ ap done l) (sym w.0) w.1
 
-pub slice_bounds-view-end-in-Wrote : goal.slice_bounds-view-end-in-Wrote
-slice_bounds-view-end-in-Wrote c =
-    omega (arith, (wrote (goal.at.slice_bounds-view-end-in-Wrote c).In-Wrote).first.counted, room (goal.at.slice_bounds-view-end-in-Wrote c).In-Wrote, c.view.auto.out)
+pub slice_bounds-view-end-in-Ok : goal.slice_bounds-view-end-in-Ok
+slice_bounds-view-end-in-Ok c =
+    omega (arith, (wrote (goal.at.slice_bounds-view-end-in-Ok c).In-Ok).first.counted, room (goal.at.slice_bounds-view-end-in-Ok c).In-Ok, c.view.auto.out)
 
 pub slice_bounds-put_view-end : goal.slice_bounds-put_view-end
 slice_bounds-put_view-end c =
-    simp length-take (omega (arith, (wrote (goal.at.slice_bounds-put_view-end c).In-Wrote).first.counted, room (goal.at.slice_bounds-put_view-end c).In-Wrote, c.view.auto.out))
+    simp length-take (omega (arith, (wrote (goal.at.slice_bounds-put_view-end c).In-Ok).first.counted, room (goal.at.slice_bounds-put_view-end c).In-Ok, c.view.auto.out))
 
 pub put_view-requires : goal.put_view-requires
 put_view-requires c =
-    record { view_len_bound = simp length-take (omega (arith, (wrote (goal.at.put_view-requires c).In-Wrote).first.counted, room (goal.at.put_view-requires c).In-Wrote, c.blank-view.ensures)); text_room_in_bounds = omega arith }
+    record { view_len_bound = simp length-take (omega (arith, (wrote (goal.at.put_view-requires c).In-Ok).first.counted, room (goal.at.put_view-requires c).In-Ok, c.blank-view.ensures)); text_room_in_bounds = omega arith }
 
-pub returns-in-Refused : goal.returns-in-Refused
+pub returns-in-Err : goal.returns-in-Err
 unfolding chunk
-returns-in-Refused c =
+returns-in-Err c =
     let a = c.args in
-    let o = said_refused _ _ _ _ (rw c.in-Refused.is at (viewed (goal.at.returns-in-Refused c).After-view)) in
+    let o = said_refused _ _ _ _ (rw c.in-Err.is at (viewed (goal.at.returns-in-Err c).After-view)) in
     let e = text_done a.longer a.list.now _ c.if-out-lt-TEXT.false in
     let l = listing_refused a.longer a.list.now c.if-longer.false _ o in
-    answers_done _ _ _ _ _ (e ∙ ap done l) (sym c.put_refused-in-Refused.ensures.0) c.put_refused-in-Refused.ensures.1
+    answers_done _ _ _ _ _ (e ∙ ap done l) (sym c.put_refused-in-Err.ensures.0) c.put_refused-in-Err.ensures.1
 
-pub returns-in-Wrote : goal.returns-in-Wrote
+pub returns-in-Ok : goal.returns-in-Ok
 unfolding chunk
-returns-in-Wrote c =
+returns-in-Ok c =
     let a = c.args in
     let e = text_done a.longer a.list.now _ c.if-out-lt-TEXT.false in
-    let l = listing_view a.longer a.list.now c.if-longer.false (wrote (goal.at.returns-in-Wrote c).In-Wrote).bytes (wrote (goal.at.returns-in-Wrote c).In-Wrote).outcome in
-    let w = rw (wrote (goal.at.returns-in-Wrote c).In-Wrote).first.front at c.put_view.ensures in
+    let l = listing_view a.longer a.list.now c.if-longer.false (wrote (goal.at.returns-in-Ok c).In-Ok).bytes (wrote (goal.at.returns-in-Ok c).In-Ok).outcome in
+    let w = rw (wrote (goal.at.returns-in-Ok c).In-Ok).first.front at c.put_view.ensures in
     answers_done _ _ _ _ _ (e ∙ ap done l) (sym w.0) w.1

@@ -24,7 +24,8 @@ use Rattle.names.specs.Volume.{volume_allowed, volume_bytes, volume_run, volume_
 use Rattle.texts.specs.Calls.{reading, WriterRefuses}
 use Rattle.texts.specs.Inverse.{Inverse, Any}
 use Rattle.names.specs.Names.{Object, object, Full, full, object_allowed, shaped, object_name, name_form, object_of, read_object, object_answer, full_allowed, full_name, full_form, full_scan, in_volume, read_full, full_answer, volume_part, write_full}
-use Rattle.names.specs.declared.ObjectName.TheVariants.{Block, Refused}
+use Rattle.names.specs.declared.ObjectName.{ObjectName}
+use Rattle.std.specs.Prelude.{Ok, Err}
 use Rattle.texts.proofs.Laws.Parts.{apart}
 use Rattle.texts.proofs.Laws.Steps.{on_word}
 use Rattle.texts.proofs.Laws.Shows.{Shows, shows_back, shows_forth}
@@ -184,15 +185,15 @@ full_steps t s0 s1 e0 e1 =
     ap (λ (x : Scan). object_answer (reading object_of x)) (sym (on_word name_form t [] slash (volume_at t) s1 (rw e0 at e1))) ∙ answer_same (take (volume_run t) t) _
 
 -- the length of the part that is handed back
-pub volume_none : (o : Outcome Full) (r : Refusal) → Refused r ≡ full_answer o → [] ≡ volume_part o
+pub volume_none : (o : Outcome Full) (r : Refusal) → Err r ≡ full_answer o → [] ≡ volume_part o
 unfolding answer_of volume_part
 volume_none (refused x) r e = refl
 volume_none (done f) r e = let z : ◌≡◌ {A = ℕ} 0 1 = cc in absurd (omega arith)
 
-pub volume_some : (t : List ℕ) (id block len : ℕ) → Block id block len ≡ full_answer (read_full t) → take (volume_run t) t ≡ volume_part (read_full t)
+pub volume_some : (t : List ℕ) (x : ObjectName) → Ok x ≡ full_answer (read_full t) → take (volume_run t) t ≡ volume_part (read_full t)
 unfolding read_full answer_of volume_part in_volume
-volume_some t id block len e = go (reading object_of (full_scan t)) e
+volume_some t x e = go (reading object_of (full_scan t)) e
   where
-    go : (o : Outcome Object) → Block id block len ≡ full_answer (in_volume (take (volume_run t) t) o) → take (volume_run t) t ≡ volume_part (in_volume (take (volume_run t) t) o)
+    go : (o : Outcome Object) → Ok x ≡ full_answer (in_volume (take (volume_run t) t) o) → take (volume_run t) t ≡ volume_part (in_volume (take (volume_run t) t) o)
     go (refused x) e = let z : ◌≡◌ {A = ℕ} 0 1 = cc in absurd (omega arith)
     go (done o) e = refl

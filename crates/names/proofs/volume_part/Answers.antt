@@ -6,8 +6,8 @@ use lib.ListN.{take, length-take}
 use Rattle.names.proofs.Laws.Full.{volume_none, volume_some}
 use Rattle.names.proofs.volume_part.Goals as goal
 
-pub returns-in-Refused : goal.returns-in-Refused
-returns-in-Refused c = volume_none _ _ (sym c.in-Refused.is ∙ c.requires)
+pub returns-in-Err : goal.returns-in-Err
+returns-in-Err c = volume_none _ _ (sym c.in-Err.is ∙ c.requires)
 
 pub slice_bounds-result-end-2 : goal.slice_bounds-result-end-2
 slice_bounds-result-end-2 c = simp length-take (omega (arith, c.run-n.ensures.1))
@@ -15,4 +15,4 @@ slice_bounds-result-end-2 c = simp length-take (omega (arith, c.run-n.ensures.1)
 pub returns : goal.returns
 returns c =
     let name = c.args.name.now in
-    ap (λ (k : ℕ). take k name) c.run-n.ensures.0 ∙ volume_some name _ _ _ (sym c.in_default.is ∙ c.requires)
+    ap (λ (k : ℕ). take k name) c.run-n.ensures.0 ∙ volume_some name _ (sym c.in_default.is ∙ c.requires)

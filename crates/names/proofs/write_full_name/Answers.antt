@@ -34,8 +34,8 @@ returns-then-out-volume c =
     let w : Widths a.id a.block a.size _ _ _ = record { of_id = c.digits-i.ensures.0; of_block = c.digits-b.ensures.0; of_size = c.digits-s.ensures.0 } in
     answers_short (full_allowed a.volume.now a.id a.block a.size) (full_name a.volume.now a.id a.block a.size) a.out.now _ (rw (v, o)) (omega (arith, full-length a.id a.block a.size a.volume.now, name_length_lem a.id a.block a.size w, c.length-n.ensures.0, c.if-out-volume.true)) c.refusal-then-out-volume.ensures
 
-pub put_full-end-requires : goal.put_full-end-requires
-put_full-end-requires c =
+pub put_full-requires : goal.put_full-requires
+put_full-requires c =
     let a = c.args in
     let w : Widths a.id a.block a.size _ _ _ = record { of_id = c.digits-i.ensures.0; of_block = c.digits-b.ensures.0; of_size = c.digits-s.ensures.0 } in
     (w, omega (arith, full-length a.id a.block a.size a.volume.now, name_length_lem a.id a.block a.size w, c.length-n.ensures.0, c.if-out-volume.false))
@@ -47,4 +47,4 @@ returns c =
     let v : volume_allowed a.volume.now ≡ true = sym c.allowed.ensures ∙ c.if-not-allowed.false in
     let o : object_allowed a.id a.block a.size ≡ true = sym c.allowed-2.ensures ∙ c.if-not-allowed-2.false in
     let w : Widths a.id a.block a.size _ _ _ = record { of_id = c.digits-i.ensures.0; of_block = c.digits-b.ensures.0; of_size = c.digits-s.ensures.0 } in
-    answers_put (full_allowed a.volume.now a.id a.block a.size) (full_name a.volume.now a.id a.block a.size) a.out.now _ _ _ (rw (v, o)) (omega (arith, full-length a.id a.block a.size a.volume.now, name_length_lem a.id a.block a.size w, c.length-n.ensures.0, c.if-out-volume.false)) c.put_full-end.ensures
+    answers_put (full_allowed a.volume.now a.id a.block a.size) (full_name a.volume.now a.id a.block a.size) a.out.now _ _ _ (rw (v, o)) (omega (arith, full-length a.id a.block a.size a.volume.now, name_length_lem a.id a.block a.size w, c.length-n.ensures.0, c.if-out-volume.false)) c.put_full.ensures

@@ -18,8 +18,8 @@ returns-then-out-n c =
     let a = c.args in
     answers_short (object_allowed a.id a.block a.size) (object_name a.id a.block a.size) a.out.now _ (sym c.allowed.ensures ∙ c.if-not-allowed.false) (omega (arith, name_length_lem a.id a.block a.size (record { of_id = c.digits-i.ensures.0; of_block = c.digits-b.ensures.0; of_size = c.digits-s.ensures.0 }), c.length-n.ensures.0, c.if-out-n.true)) c.refusal-then-out-n.ensures
 
-pub put-end-requires : goal.put-end-requires
-put-end-requires c =
+pub put-requires : goal.put-requires
+put-requires c =
     let a = c.args in
     let w : Widths a.id a.block a.size _ _ _ = record { of_id = c.digits-i.ensures.0; of_block = c.digits-b.ensures.0; of_size = c.digits-s.ensures.0 } in
     (w, omega (arith, name_length_lem a.id a.block a.size w, c.length-n.ensures.0, c.if-out-n.false), c.table-table.ensures)
@@ -27,4 +27,4 @@ put-end-requires c =
 pub returns : goal.returns
 returns c =
     let a = c.args in
-    answers_put (object_allowed a.id a.block a.size) (object_name a.id a.block a.size) a.out.now _ _ _ (sym c.allowed.ensures ∙ c.if-not-allowed.false) (omega (arith, name_length_lem a.id a.block a.size (record { of_id = c.digits-i.ensures.0; of_block = c.digits-b.ensures.0; of_size = c.digits-s.ensures.0 }), c.length-n.ensures.0, c.if-out-n.false)) c.put-end.ensures
+    answers_put (object_allowed a.id a.block a.size) (object_name a.id a.block a.size) a.out.now _ _ _ (sym c.allowed.ensures ∙ c.if-not-allowed.false) (omega (arith, name_length_lem a.id a.block a.size (record { of_id = c.digits-i.ensures.0; of_block = c.digits-b.ensures.0; of_size = c.digits-s.ensures.0 }), c.length-n.ensures.0, c.if-out-n.false)) c.put.ensures

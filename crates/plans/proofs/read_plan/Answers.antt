@@ -6,21 +6,22 @@ use Rattle.slices.specs.Limits.{chunk}
 use Rattle.slices.specs.Refusals.{check_outcome, checked}
 use Rattle.std.specs.Prelude.{Ok}
 use Rattle.outcomes.proofs.Laws.Answers.{answers_refused, answers_refusal, answers_as}
-use Rattle.slices.proofs.Laws.Refusals.{check_accepts}
+use Rattle.slices.proofs.Laws.Refusals.{check_accepts, check_counts}
 use Rattle.blocks.specs.Blocks.{smallest, largest}
 use Rattle.blocks.proofs.Laws.Blocks.{block_range}
 use Rattle.plans.proofs.Laws.Calls.{read_7, read_21, read_8, read_refused, read_accepted}
 use Rattle.slices.specs.Record.{count}
+use Rattle.std.proofs.lemmas.Result.{err_from_is_err_and}
 use Rattle.plans.proofs.read_plan.Goals as goal
-use Rattle.plans.proofs.read_plan.Goals.{In-Accepted, Then-block_allowed}
+use Rattle.plans.proofs.read_plan.Goals.{In_ok-n, Else-not-block_allowed}
 
 -- the list is accepted
-accepted : (c : In-Accepted) → checked (check_outcome c.args.list.now) ≡ Ok c.in-Accepted.field-0
-accepted c = sym c.check_list.ensures ∙ c.in-Accepted.is
+accepted : (c : In_ok-n) → checked (check_outcome c.args.list.now) ≡ Ok c.in_ok-n.n
+accepted c = sym c.check_list.ensures ∙ c.in_ok-n.was
 
 -- the block size is in range
-ranged : (c : Then-block_allowed) → (smallest ≤ c.args.block_size) × (c.args.block_size ≤ largest)
-ranged c = block_range _ (sym c.block_allowed.ensures ∙ c.if-block_allowed.true)
+ranged : (c : Else-not-block_allowed) → (smallest ≤ c.args.block_size) × (c.args.block_size ≤ largest)
+ranged c = block_range _ (sym c.block_allowed.ensures ∙ c.if-not-block_allowed.false)
 
 pub returns-then-chunk_len : goal.returns-then-chunk_len
 unfolding chunk
@@ -35,8 +36,8 @@ pub cut-read-requires : goal.cut-read-requires
 unfolding chunk
 cut-read-requires c = omega arith
 
-pub overflow_cast-block_size : goal.overflow_cast-block_size
-overflow_cast-block_size c = omega (arith, ranged (goal.at.overflow_cast-block_size c).Then-block_allowed)
+pub overflow_cast-block : goal.overflow_cast-block
+overflow_cast-block c = omega (arith, ranged (goal.at.overflow_cast-block c).Else-not-block_allowed)
 
 pub overflow_cast-index : goal.overflow_cast-index
 overflow_cast-index c = omega (arith, c.if-index-gt-MAX_INDEX.false)
@@ -44,42 +45,40 @@ overflow_cast-index c = omega (arith, c.if-index-gt-MAX_INDEX.false)
 pub small-requires : goal.small-requires
 unfolding chunk count
 small-requires c =
-    let accepts = check_accepts _ _ (accepted (goal.at.small-requires c).In-Accepted) in
-    record { all = accepts.pass; list_bound = (c.if-n-le32.true, c.cut-read.ensures.order, omega (arith, c.cut-read.ensures.within)); block_value = sym c.block_allowed.ensures ∙ c.if-block_allowed.true }
+    let accepts = check_accepts _ _ (accepted (goal.at.small-requires c).In_ok-n) in
+    record { all = accepts.pass; list_bound = (omega (arith, check_counts _ _ (accepted (goal.at.small-requires c).In_ok-n), c.if-n-le32.true), c.cut-read.ensures.order, omega (arith, c.cut-read.ensures.within)); block_value = sym c.block_allowed.ensures ∙ c.if-not-block_allowed.false }
 
 pub returns-then-n-le32 : goal.returns-then-n-le32
 unfolding chunk
 returns-then-n-le32 c =
     answers_as _ _ _ _ _
-    (read_accepted _ _ _ _ _ _ _ c.if-chunk_len.false c.if-index-gt-MAX_INDEX.false _ c.block_allowed.ensures c.if-block_allowed.true _ (accepted (goal.at.returns-then-n-le32 c).In-Accepted) _ _ c.cut-read.ensures)
+    (read_accepted _ _ _ _ _ _ _ c.if-chunk_len.false c.if-index-gt-MAX_INDEX.false _ c.block_allowed.ensures c.if-not-block_allowed.false _ (accepted (goal.at.returns-then-n-le32 c).In_ok-n) _ _ c.cut-read.ensures)
     c.small.ensures
 
-pub overflow_cast-block_size-in-Accepted : goal.overflow_cast-block_size-in-Accepted
-overflow_cast-block_size-in-Accepted c = omega (arith, ranged (goal.at.overflow_cast-block_size-in-Accepted c).Then-block_allowed)
-
-pub overflow_cast-index-in-Accepted : goal.overflow_cast-index-in-Accepted
-overflow_cast-index-in-Accepted c = omega (arith, c.if-index-gt-MAX_INDEX.false)
+pub overflow_cast-index-2 : goal.overflow_cast-index-2
+overflow_cast-index-2 c = omega (arith, c.if-index-gt-MAX_INDEX.false)
 
 pub many-requires : goal.many-requires
 unfolding chunk count
 many-requires c =
-    let accepts = check_accepts _ _ (accepted (goal.at.many-requires c).In-Accepted) in
-    record { all = accepts.pass; list_bound = (accepts.few, c.cut-read.ensures.order, omega (arith, c.cut-read.ensures.within)); block_value = sym c.block_allowed.ensures ∙ c.if-block_allowed.true }
+    let accepts = check_accepts _ _ (accepted (goal.at.many-requires c).In_ok-n) in
+    record { all = accepts.pass; list_bound = (accepts.few, c.cut-read.ensures.order, omega (arith, c.cut-read.ensures.within)); block_value = sym c.block_allowed.ensures ∙ c.if-not-block_allowed.false }
 
-pub returns-in-Refused : goal.returns-in-Refused
+pub returns-in_err-n : goal.returns-in_err-n
 unfolding chunk
-returns-in-Refused c =
-    answers_refused _ _ _
-    (read_refused _ _ _ _ _ _ _ c.if-chunk_len.false c.if-index-gt-MAX_INDEX.false _ c.block_allowed.ensures c.if-block_allowed.true _ (sym c.check_list.ensures ∙ c.in-Refused.is))
+returns-in_err-n c =
+    let p = err_from_is_err_and c.from_residual.result c.from_residual.ensures.1 in
+    rw (p.1, p.2) (answers_refused _ _ _
+    (read_refused _ _ _ _ _ _ _ c.if-chunk_len.false c.if-index-gt-MAX_INDEX.false _ c.block_allowed.ensures c.if-not-block_allowed.false _ (sym c.check_list.ensures ∙ c.in_err-n.was)))
 
-pub returns-else-n-le32 : goal.returns-else-n-le32
+pub returns : goal.returns
 unfolding chunk
-returns-else-n-le32 c =
+returns c =
     answers_as _ _ _ _ _
-    (read_accepted _ _ _ _ _ _ _ c.if-chunk_len.false c.if-index-gt-MAX_INDEX.false _ c.block_allowed.ensures c.if-block_allowed.true _ (accepted (goal.at.returns-else-n-le32 c).In-Accepted) _ _ c.cut-read.ensures)
+    (read_accepted _ _ _ _ _ _ _ c.if-chunk_len.false c.if-index-gt-MAX_INDEX.false _ c.block_allowed.ensures c.if-not-block_allowed.false _ (accepted (goal.at.returns c).In_ok-n) _ _ c.cut-read.ensures)
     c.many.ensures
 
-pub returns-else-block_allowed : goal.returns-else-block_allowed
+pub returns-then-not-block_allowed : goal.returns-then-not-block_allowed
 unfolding chunk
-returns-else-block_allowed c =
-    answers_refusal _ _ _ _ (read_8 _ _ _ _ _ _ _ c.if-chunk_len.false c.if-index-gt-MAX_INDEX.false _ c.block_allowed.ensures c.if-block_allowed.false) c.refusal-else-block_allowed.ensures
+returns-then-not-block_allowed c =
+    answers_refusal _ _ _ _ (read_8 _ _ _ _ _ _ _ c.if-chunk_len.false c.if-index-gt-MAX_INDEX.false _ c.block_allowed.ensures c.if-not-block_allowed.true) c.refusal-then-not-block_allowed.ensures

@@ -22,15 +22,15 @@ use Rattle.slices.specs.declared.Record.{Record}
 use Rattle.views.specs.View.{view}
 use Rattle.views.specs.Calls.{view_bytes, view_outcome}
 use Rattle.views.proofs.Laws.ViewBack.{view_back, view_wrote}
-use Rattle.seeking.specs.Seek.{seek, seek_view, no_segment}
+use Rattle.seeking.specs.Seek.{numbered, seek, seek_view, no_segment}
 use Rattle.seeking.specs.Claims.{Holds, FindsIn}
-use Rattle.seeking.specs.declared.Found.TheVariants.{At}
+use Rattle.std.specs.Prelude.{Some}
 use Rattle.seeking.proofs.Laws.Seek.{found_holds, view_whole}
 use Rattle.seeking.proofs.Laws.Loaded.{loaded_finds}
 
-pub view_found_holds : (bs : List ℕ) (segments p k : ℕ) (r : Record) → seek_view bs segments p ≡ done (At k r) → Holds (record_at bs) (min segments (count bs)) p k r
+pub view_found_holds : (bs : List ℕ) (segments p k : ℕ) (r : Record) → seek_view bs segments p ≡ done (Some (numbered k r)) → Holds (record_at bs) (min segments (count bs)) p k r
 unfolding seek_view
-view_found_holds bs segments p k r h = found_holds (record_at bs) (min segments (count bs)) p k r (sym (done_is _ _ (At k r) h))
+view_found_holds bs segments p k r h = found_holds (record_at bs) (min segments (count bs)) p k r (sym (done_is _ _ (Some (numbered k r)) h))
 
 -- ---- the records of bytes by their places
 

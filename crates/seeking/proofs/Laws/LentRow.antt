@@ -7,14 +7,14 @@ use mathlib.Core.List.{List, ◌++◌}
 use lib.ListN.{length, get_or, length-append, get_or-append}
 use Rattle.slices.specs.declared.Record.{Record}
 use Rattle.views.specs.View.{view}
-use Rattle.seeking.specs.Seek.{halve, if_held, seek_row, no_segment}
+use Rattle.seeking.specs.Seek.{numbered, halve, if_held, seek_row, no_segment}
 use Rattle.seeking.specs.Claims.{Holds, Finds}
-use Rattle.seeking.specs.declared.Found.TheVariants.{Nowhere, At}
+use Rattle.std.specs.Prelude.{Option, Some, None}
 use Rattle.seeking.specs.declared.Found.{Found}
 use Rattle.seeking.proofs.Laws.Seek.{found_holds, seek_none, seek_tested}
 use Rattle.seeking.proofs.Laws.Loaded.{loaded_finds}
 
-pub row_found_holds : (row : List Record) (number p k : ℕ) (r : Record) → seek_row row number p ≡ At k r
+pub row_found_holds : (row : List Record) (number p k : ℕ) (r : Record) → seek_row row number p ≡ Some (numbered k r)
     → Holds (λ (i : ℕ). get_or row i no_segment) (min number (length row)) p k r
 unfolding seek_row
 row_found_holds row number p k r h = found_holds (λ (i : ℕ). get_or row i no_segment) (min number (length row)) p k r h
@@ -30,10 +30,10 @@ row_loaded_finds rs l rest =
 -- ---- case by case
 
 module _ (row : List Record) (number p n : ℕ) (e : n ≡ min number (length row)) where
-  pub row_none : n ≡ 0 → Nowhere ≡ seek_row row number p
+  pub row_none : n ≡ 0 → None ≡ seek_row row number p
   unfolding seek_row
   row_none z = seek_none (λ (i : ℕ). get_or row i no_segment) (min number (length row)) p (sym e ∙ z)
 
-  pub row_tested : (n ≡ 0 → ⊥) → (k : ℕ) (f : Found) → k ≡ halve (λ (i : ℕ). (get_or row i no_segment).pos) p n 0 n → f ≡ if_held p k (get_or row k no_segment) → f ≡ seek_row row number p
+  pub row_tested : (n ≡ 0 → ⊥) → (k : ℕ) (f : Option Found) → k ≡ halve (λ (i : ℕ). (get_or row i no_segment).pos) p n 0 n → f ≡ if_held p k (get_or row k no_segment) → f ≡ seek_row row number p
   unfolding seek_row
   row_tested z k f ek ef = rw (← e) (seek_tested (λ (i : ℕ). get_or row i no_segment) n p z k (get_or row k no_segment) f ek refl ef)

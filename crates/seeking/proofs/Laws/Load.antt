@@ -202,3 +202,9 @@ module _ (bs : List ℕ) (b : Bytes bs) (l rows : ℕ) (out part : List ℕ) (r 
 pub loads : (o : Outcome (List Record)) (bytes : List ℕ) (row : List Record) (x : Result ℕ Refusal) (bytes_after : List ℕ) (after : List Record) (n : ℕ) → Within o (length row) bytes x bytes_after → n ≡ segments_in x
     → after ≡ filled bytes_after row n → Loads o bytes row x bytes_after after
 loads o bytes row x bytes_after after n w e h = record { answers = w.answers; leaves = w.leaves; fills = h ∙ ap (filled bytes_after row) e ∙ w.fills row }
+
+-- a refused view leaves the row as it was
+pub loads_refused : (o : Outcome (List Record)) (bytes : List ℕ) (row : List Record) (r : Refusal) (bytes_after : List ℕ) → Within o (length row) bytes (Err r) bytes_after
+    → Loads o bytes row (Err r) bytes_after row
+unfolding segments_in
+loads_refused o bytes row r bytes_after w = loads o bytes row (Err r) bytes_after row 0 w refl (sym (filled_start bytes_after row))

@@ -11,9 +11,9 @@ use Rattle.slices.specs.Cover.{covers}
 use Rattle.slices.proofs.Laws.Cover.{covers_in, covers_after, covers_range}
 use Rattle.slices.specs.declared.Record.{Record}
 use Rattle.views.specs.View.{view}
-use Rattle.seeking.specs.Seek.{halve, if_held, seek, no_segment}
+use Rattle.seeking.specs.Seek.{numbered, halve, if_held, seek, no_segment}
 use Rattle.seeking.specs.Claims.{TheOne, Finds}
-use Rattle.seeking.specs.declared.Found.TheVariants.{Nowhere, At}
+use Rattle.std.specs.Prelude.{Some, None}
 use Rattle.seeking.proofs.Laws.Halve.{Ends, halve_ends, halve_below}
 use Rattle.seeking.proofs.Laws.Seek.{seek_none, seek_tested}
 use Rattle.seeking.proofs.Laws.Edges.{Divides, edges_rise, view_edges}
@@ -55,15 +55,15 @@ module _ (row : ℕ → Record) (n l : ℕ) (d : Divides row n l) (p : ℕ) wher
       let c = covers_in (row end) p (omega (arith, d.from end e.below, e.here)) (omega (arith, d.to end e.below, e.next)) in
       record {
         number = end;
-        found = sym (seek_tested row n p (λ z. omega arith) end (row end) (At end (row end)) refl refl (held c));
+        found = sym (seek_tested row n p (λ z. omega arith) end (row end) (Some (numbered end (row end))) refl refl (held c));
         holds = record { within = e.below; same = refl; held = c };
         only = λ j b h. let x = only j end b e.below h c in let y = only end j e.below b c h in omega arith;
       }
     where
-      held : covers (row end) p ≡ true → At end (row end) ≡ if_held p end (row end)
+      held : covers (row end) p ≡ true → Some (numbered end (row end)) ≡ if_held p end (row end)
       held c = rw c
 
-  divided_none : l ≤ p → seek row n p ≡ Nowhere
+  divided_none : l ≤ p → seek row n p ≡ None
   unfolding if_held
   divided_none k = go (ℕ_discrete n 0)
     where
@@ -73,12 +73,12 @@ module _ (row : ℕ → Record) (n l : ℕ) (d : Divides row n l) (p : ℕ) wher
           let up = rw e at (edges_rise row n l d (suc end) (n - suc end) (omega arith)) in
           omega (arith, up, d.to end b, d.ends)
 
-      past : end < n → Nowhere ≡ if_held p end (row end)
+      past : end < n → None ≡ if_held p end (row end)
       past b = rw (covers_after (row end) p (before b))
 
-      go : Dec (n ≡ 0) → seek row n p ≡ Nowhere
+      go : Dec (n ≡ 0) → seek row n p ≡ None
       go (yes z) = sym (seek_none row n p z)
-      go (no z) = sym (seek_tested row n p z end (row end) Nowhere refl refl (past (halve_below (λ (i : ℕ). (row i).pos) p n (omega arith))))
+      go (no z) = sym (seek_tested row n p z end (row end) None refl refl (past (halve_below (λ (i : ℕ). (row i).pos) p n (omega arith))))
 
 -- a row whose first n elements are a view's
 pub loaded_finds : (rs : List Record) (l : ℕ) (row : ℕ → Record) → ((i : ℕ) → i < length (view rs l) → row i ≡ get_or (view rs l) i no_segment)

@@ -17,34 +17,35 @@ use Rattle.slices.specs.Limits.{record_size}
 use Rattle.slices.specs.Record.{count, record_at}
 use Rattle.slices.specs.Refusals.{not_whole}
 use Rattle.slices.specs.declared.Record.{Record}
-use Rattle.seeking.specs.Seek.{halve, if_held, seek, seek_view}
+use Rattle.seeking.specs.Seek.{numbered, halve, if_held, seek, seek_view}
 use Rattle.seeking.specs.declared.Found.{Found}
-use Rattle.seeking.specs.declared.Found.TheVariants.{Nowhere, At}
+use Rattle.std.specs.Prelude.{Option, Some, None}
 
 -- ---- among the first n segments of a row
 
 module _ (row : ℕ → Record) (n p : ℕ) where
-  pub seek_none : n ≡ 0 → Nowhere ≡ seek row n p
+  pub seek_none : n ≡ 0 → None ≡ seek row n p
   unfolding seek
   seek_none e = rw (eq-eqb n 0 e)
 
   -- the segment at which halving ends is tested
-  pub seek_tested : (n ≡ 0 → ⊥) → (k : ℕ) (r : Record) (f : Found) → k ≡ halve (λ (i : ℕ). (row i).pos) p n 0 n → r ≡ row k → f ≡ if_held p k r → f ≡ seek row n p
+  pub seek_tested : (n ≡ 0 → ⊥) → (k : ℕ) (r : Record) (f : Option Found) → k ≡ halve (λ (i : ℕ). (row i).pos) p n 0 n → r ≡ row k → f ≡ if_held p k r → f ≡ seek row n p
   unfolding seek
   seek_tested h k r f ek er ef = rw (ne_eqb n 0 h) (rw (← ek, ← er) ef)
 
 -- whatever the row holds, what is given is one of its first n segments and holds the position
-pub found_holds : (row : ℕ → Record) (n p k : ℕ) (r : Record) → seek row n p ≡ At k r → Holds row n p k r
+pub found_holds : (row : ℕ → Record) (n p k : ℕ) (r : Record) → seek row n p ≡ Some (numbered k r) → Holds row n p k r
 unfolding if_held
 found_holds row n p k r h = go (ℕ_discrete n 0)
   where
     e : ℕ
     e = halve (λ (i : ℕ). (row i).pos) p n 0 n
 
-    tested : (n ≡ 0 → ⊥) → (t : Bool) → covers (row e) p ≡ t → cond t (At e (row e)) Nowhere ≡ At k r → Holds row n p k r
+    tested : (n ≡ 0 → ⊥) → (t : Bool) → covers (row e) p ≡ t → cond t (Some (numbered e (row e))) None ≡ Some (numbered k r) → Holds row n p k r
     tested z true c q =
-        let i : e ≡ k = cc in
-        let s : row e ≡ r = cc in
+        let f : numbered e (row e) ≡ numbered k r = cc in
+        let i : e ≡ k = ap (λ (x : Found). x.number) f in
+        let s : row e ≡ r = ap (λ (x : Found). x.segment) f in
         record { within = rw (← i) (halve_below (λ (i : ℕ). (row i).pos) p n (omega arith)); same = sym s ∙ ap row i; held = rw (← s) c }
     tested z false c q = let z : ◌≡◌ {A = ℕ} 0 1 = cc in absurd (omega arith)
 

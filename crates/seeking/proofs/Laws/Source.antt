@@ -14,6 +14,7 @@ use Rattle.views.proofs.Laws.ViewSource.{view_source}
 use Rattle.seeking.specs.Seek.{no_segment}
 use Rattle.seeking.specs.Claims.{TheOne}
 use Rattle.seeking.specs.declared.Found.{Found}
+use Rattle.std.specs.Prelude.{Option}
 
 -- the only record that holds a position gives its source
 source_only : (vs : List Record) (p k : ℕ) → k < length vs → covers (get_or vs k no_segment) p ≡ true
@@ -29,7 +30,7 @@ source_only (v ∷ vs) p (suc k) h c only =
     go false e ih = ih
 
 pub found_source : (rs : List Record) → All Passes rs → (l : ℕ) (row : ℕ → Record) → ((i : ℕ) → i < length (view rs l) → row i ≡ get_or (view rs l) i no_segment)
-    → (p : ℕ) → p < l → (f : Found) (t : TheOne row (length (view rs l)) p f) → says_at (row t.number) p ≡ cover rs p
+    → (p : ℕ) → p < l → (f : Option Found) (t : TheOne row (length (view rs l)) p f) → says_at (row t.number) p ≡ cover rs p
 found_source rs pass l row same p h f t =
     let k = t.number in
     let w = t.holds.within in

@@ -24,15 +24,14 @@ use Rattle.files.specs.File.{list_of, site_at, site_from, file_end, part_end}
 use Rattle.files.proofs.Laws.Calls.{chunks_let, accepted_count}
 use Rattle.files.proofs.Laws.Joins.{edge}
 use Rattle.stepping.specs.Step.{Step, given, finished, next_step}
-use Rattle.stepping.specs.Calls.{next_file_outcome, said_file_next, next_file_answer}
+use Rattle.std.specs.Prelude.{Some, None, Ok, Err}
+use Rattle.stepping.specs.Calls.{next_file_outcome, as_given, next_file_answer}
 use Rattle.stepping.specs.Inner.{PieceFrom}
 use Rattle.stepping.proofs.Laws.Leads.{step_piece}
 use Rattle.stepping.proofs.Laws.Steps.{finished_stays}
 use Rattle.slices.specs.declared.Record.{Record}
 use Rattle.joined.specs.declared.ListRefusal.{ListRefusal}
-use Rattle.std.specs.Prelude.{Ok}
 use Rattle.plans.specs.declared.Piece.{Piece}
-use Rattle.stepping.specs.declared.FileNext.TheVariants as file
 
 -- ---- the step of a read across chunks
 
@@ -83,13 +82,13 @@ module _ (bs ns : List ℕ) (first file_len B start count at : ℕ) where
 
   -- a refusal of the rows
   pub next_file_refused : (r q : ListRefusal) → first_of (chunks_rows bs ns first B) (done step) ≡ refused q → r ≡ q
-      → file.Refused r ≡ next_file_answer outcome
+      → Err r ≡ next_file_answer outcome
   unfolding next_file_outcome answer_of
-  next_file_refused r q h e = rw h (ap file.Refused e)
+  next_file_refused r q h e = rw h (ap Err e)
 
   module _ (a : wrong_chunks ns (length bs) first ≡ false) (b : block_allowed B ≡ true) (m : ℕ) (k : checked_lists (lists_outcome first (parts ns bs)) ≡ Ok m) (from end : ℕ)
       (cut : Cut (file_end first file_len m) start count from end) where
-    answers : (s : Step) → step ≡ s → said_file_next s ≡ next_file_answer outcome
+    answers : (s : Step) → step ≡ s → Ok (as_given s) ≡ next_file_answer outcome
     unfolding next_file_outcome answer_of
     answers s e = rw (chunks_let bs ns first B (done step) a b m (said_accepted _ m k), e)
 
@@ -97,14 +96,14 @@ module _ (bs ns : List ℕ) (first file_len B start count at : ℕ) where
     unfolding lists_in
     counted = rw length-map (accepted_count bs ns first m k ∙ sym (parts-length ns bs))
 
-    pub next_file_finished : end - from ≤ at → file.Finished ≡ next_file_answer outcome
-    unfolding said_file_next
+    pub next_file_finished : end - from ≤ at → Ok None ≡ next_file_answer outcome
+    unfolding as_given
     next_file_finished h = answers finished (finished_stays _ _ at (rw (← counted) (omega (arith, cut.size))))
 
     pub next_file_given : at < end - from → (piece : Piece)
         → PieceFrom B (records (get_or (parts ns bs) ((from + at) / chunk) [])) (first + (from + at) / chunk) at ((from + at) % chunk) (part_end end ((from + at) / chunk)) piece
-        → (to : ℕ) → to ≡ at + piece.len → file.Given piece (record { at = to }) ≡ next_file_answer outcome
-    unfolding said_file_next list_of lists_in
+        → (to : ℕ) → to ≡ at + piece.len → Ok (Some (record { piece = piece; next = record { at = to } })) ≡ next_file_answer outcome
+    unfolding as_given list_of lists_in
     next_file_given h piece p to e =
         let s = cut.starts (omega arith) in
         let z : end ≡ start + bytes = rw (← counted) (omega (arith, cut.size, cut.order)) in

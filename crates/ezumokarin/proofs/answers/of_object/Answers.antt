@@ -2,10 +2,10 @@
 use Rattle.ezumokarin.specs.Names.{plain_object}
 use Rattle.ezumokarin.proofs.answers.of_object.Goals as goal
 
-pub returns-in-Block : goal.returns-in-Block
+pub returns-in-Ok : goal.returns-in-Ok
 unfolding plain_object
-returns-in-Block c = rw c.in-Block.is
+returns-in-Ok c = rw c.in-Ok.is
 
-pub returns-in-Refused : goal.returns-in-Refused
+pub returns-in-Err : goal.returns-in-Err
 unfolding plain_object
-returns-in-Refused c = rw c.in-Refused.is
+returns-in-Err c = rw c.in-Err.is

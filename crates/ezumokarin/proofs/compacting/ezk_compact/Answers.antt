@@ -7,4 +7,4 @@ use Rattle.ezumokarin.proofs.compacting.ezk_compact.Goals as goal
 pub returns : goal.returns
 returns c =
     let a = c.compact.ensures in
-    record { value = c.of_compacted.ensures ∙ ap plain_compacted a.answers ∙ plain_both _; plan_after = a.leaves.0; new_list_after = a.leaves.1.0 }
+    record { value = c.from.ensures ∙ ap plain_compacted a.answers ∙ plain_both _; plan_after = a.leaves.0; new_list_after = a.leaves.1.0 }

@@ -7,4 +7,4 @@ use Rattle.ezumokarin.proofs.filing.ezk_file_plan.Goals as goal
 pub returns : goal.returns
 returns c =
     let a = c.file_plan.ensures in
-    record { value = c.of_file.ensures ∙ ap plain_file a.answers ∙ plain_file_lem _; out_after = a.leaves.0 }
+    record { value = c.from.ensures ∙ ap plain_file a.answers ∙ plain_file_lem _; out_after = a.leaves.0 }

@@ -5,4 +5,4 @@ use Rattle.ezumokarin.proofs.Laws.{plain_judged_lem}
 use Rattle.ezumokarin.proofs.judges.ezk_judge_plan.Goals as goal
 
 pub returns : goal.returns
-returns c = c.of_judged.ensures ∙ ap plain_judged c.judge.ensures ∙ plain_judged_lem _
+returns c = c.from.ensures ∙ ap plain_judged c.judge.ensures ∙ plain_judged_lem _

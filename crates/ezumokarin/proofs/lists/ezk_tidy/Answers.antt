@@ -7,4 +7,4 @@ use Rattle.ezumokarin.proofs.lists.ezk_tidy.Goals as goal
 pub returns : goal.returns
 returns c =
     let a = c.tidy.ensures in
-    record { value = c.of_answer.ensures ∙ ap plain_answer a.answers ∙ plain_wrote _; out_after = a.leaves.0 }
+    record { value = c.from.ensures ∙ ap plain_answer a.answers ∙ plain_wrote _; out_after = a.leaves.0 }

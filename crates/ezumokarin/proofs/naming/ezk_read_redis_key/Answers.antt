@@ -5,4 +5,4 @@ use Rattle.ezumokarin.proofs.Laws.{plain_chunk_lem}
 use Rattle.ezumokarin.proofs.naming.ezk_read_redis_key.Goals as goal
 
 pub returns : goal.returns
-returns c = c.of_chunk.ensures ∙ ap plain_chunk c.read_redis_key.ensures ∙ plain_chunk_lem _
+returns c = c.from.ensures ∙ ap plain_chunk c.read_redis_key.ensures ∙ plain_chunk_lem _

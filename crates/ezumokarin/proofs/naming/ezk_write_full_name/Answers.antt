@@ -7,4 +7,4 @@ use Rattle.ezumokarin.proofs.naming.ezk_write_full_name.Goals as goal
 pub returns : goal.returns
 returns c =
     let a = c.write_full_name.ensures in
-    record { value = c.of_answer.ensures ∙ ap plain_answer a.answers ∙ plain_wrote _; out_after = a.leaves.0 }
+    record { value = c.from.ensures ∙ ap plain_answer a.answers ∙ plain_wrote _; out_after = a.leaves.0 }

@@ -5,4 +5,4 @@ use Rattle.ezumokarin.proofs.Laws.{plain_sought_lem}
 use Rattle.ezumokarin.proofs.seeks.ezk_find.Goals as goal
 
 pub returns : goal.returns
-returns c = c.of_sought.ensures ∙ ap plain_sought c.find_in.ensures ∙ plain_sought_lem _
+returns c = c.from.ensures ∙ ap plain_sought c.find_in.ensures ∙ plain_sought_lem _

@@ -1,16 +1,16 @@
 -- `ezumokarin::steps::of_file_next` meets its contract: in each arm the answer is known. Assumes nothing.
-use mathlib.Core.Path.{◌∙◌}
+use Rattle.std.proofs.Common.{rules}
 use Rattle.ezumokarin.specs.Steps.{plain_file_next}
 use Rattle.ezumokarin.proofs.steps.of_file_next.Goals as goal
 
-pub returns-in-Given : goal.returns-in-Given
+pub returns-in-Ok-Some : goal.returns-in-Ok-Some
 unfolding plain_file_next
-returns-in-Given c = c.in_file.ensures ∙ rw (c.a_piece.ensures, c.in-Given.is)
+returns-in-Ok-Some c = search rules
 
-pub returns-in-Finished : goal.returns-in-Finished
+pub returns-in-Ok-None : goal.returns-in-Ok-None
 unfolding plain_file_next
-returns-in-Finished c = c.in_file-in-Finished.ensures ∙ rw (c.no_piece.ensures, c.in-Finished.is)
+returns-in-Ok-None c = search rules
 
-pub returns-in-Refused : goal.returns-in-Refused
+pub returns-in-Err : goal.returns-in-Err
 unfolding plain_file_next
-returns-in-Refused c = c.in_file-in-Refused.ensures ∙ rw (c.no_piece-in-Refused.ensures, c.in-Refused.is)
+returns-in-Err c = search rules

@@ -10,16 +10,17 @@ use Rattle.blocks.specs.Blocks.{block_allowed}
 use Rattle.blocks.proofs.Laws.Blocks.{block_range}
 use Rattle.plans.proofs.Laws.Calls.{chunk_7, chunk_21, chunk_8, chunk_refused}
 use Rattle.stepping.proofs.Laws.Chunk.{next_refused, next_finished, next_given}
+use Rattle.std.proofs.lemmas.Result.{err_from_is_err_and}
 use Rattle.stepping.proofs.Place.next_piece.Goals as goal
-use Rattle.stepping.proofs.Place.next_piece.Goals.{In-Accepted, Then-block_allowed}
+use Rattle.stepping.proofs.Place.next_piece.Goals.{In_ok-check_list, Else-not-block_allowed}
 
 -- the list is accepted
-accepted : (c : In-Accepted) → checked (check_outcome c.args.list.now) ≡ Ok c.in-Accepted.field-0
-accepted c = sym c.check_list.ensures ∙ c.in-Accepted.is
+accepted : (c : In_ok-check_list) → checked (check_outcome c.args.list.now) ≡ Ok c.in_ok-check_list.field-0
+accepted c = sym c.check_list.ensures ∙ c.in_ok-check_list.was
 
 -- the block size is allowed
-allowed : (c : Then-block_allowed) → block_allowed c.args.block_size ≡ true
-allowed c = sym c.block_allowed.ensures ∙ c.if-block_allowed.true
+allowed : (c : Else-not-block_allowed) → block_allowed c.args.block_size ≡ true
+allowed c = sym c.block_allowed.ensures ∙ c.if-not-block_allowed.false
 
 pub returns-then-chunk_len : goal.returns-then-chunk_len
 unfolding chunk
@@ -36,32 +37,33 @@ bytes_of-requires c = c.cut-read.ensures.order
 pub returns-then-bytes_of-at : goal.returns-then-bytes_of-at
 unfolding chunk
 returns-then-bytes_of-at c =
-    next_finished _ _ _ _ _ _ _ c.if-chunk_len.false c.if-index-gt-MAX_INDEX.false _ c.block_allowed.ensures c.if-block_allowed.true _ (accepted (goal.at.returns-then-bytes_of-at c).In-Accepted) _ _ c.cut-read.ensures (omega (arith, c.if-bytes_of-at.true, c.bytes_of.ensures))
+    next_finished _ _ _ _ _ _ _ c.if-chunk_len.false c.if-index-gt-MAX_INDEX.false _ c.block_allowed.ensures c.if-not-block_allowed.false _ (accepted (goal.at.returns-then-bytes_of-at c).In_ok-check_list) _ _ c.cut-read.ensures (omega (arith, c.if-bytes_of-at.true, c.bytes_of.ensures))
 
 pub overflow_cast-block_size : goal.overflow_cast-block_size
-overflow_cast-block_size c = omega (arith, block_range _ (allowed (goal.at.overflow_cast-block_size c).Then-block_allowed))
+overflow_cast-block_size c = omega (arith, block_range _ (allowed (goal.at.overflow_cast-block_size c).Else-not-block_allowed))
 
 pub piece_at-piece-requires : goal.piece_at-piece-requires
 unfolding chunk
 piece_at-piece-requires c =
     let u = c.cut-read.ensures in
-    record { accepts = (check_accepts _ _ (accepted (goal.at.piece_at-piece-requires c).In-Accepted), allowed (goal.at.piece_at-piece-requires c).Then-block_allowed); p_lt_end = (omega (arith, c.if-bytes_of-at.false, c.bytes_of.ensures, u.order), omega (arith, u.within)) }
+    record { accepts = (check_accepts _ _ (accepted (goal.at.piece_at-piece-requires c).In_ok-check_list), allowed (goal.at.piece_at-piece-requires c).Else-not-block_allowed); p_lt_end = (omega (arith, c.if-bytes_of-at.false, c.bytes_of.ensures, u.order), omega (arith, u.within)) }
 
 pub behind-requires : goal.behind-requires
 behind-requires c = omega (arith, c.if-bytes_of-at.false, c.bytes_of.ensures)
 
-pub returns-in-Refused : goal.returns-in-Refused
+pub returns-in_err-check_list : goal.returns-in_err-check_list
 unfolding chunk
-returns-in-Refused c =
-    next_refused _ _ _ _ _ _ _ _ _
-    (chunk_refused _ _ _ _ _ c.if-chunk_len.false c.if-index-gt-MAX_INDEX.false _ c.block_allowed.ensures c.if-block_allowed.true _ (sym c.check_list.ensures ∙ c.in-Refused.is)) refl
+returns-in_err-check_list c =
+    let p = err_from_is_err_and c.from_residual.result c.from_residual.ensures.1 in
+    rw (p.1, p.2) (next_refused _ _ _ _ _ _ _ _ _
+    (chunk_refused _ _ _ _ _ c.if-chunk_len.false c.if-index-gt-MAX_INDEX.false _ c.block_allowed.ensures c.if-not-block_allowed.false _ (sym c.check_list.ensures ∙ c.in_err-check_list.was)) refl)
 
-pub returns-else-bytes_of-at : goal.returns-else-bytes_of-at
+pub returns : goal.returns
 unfolding chunk
-returns-else-bytes_of-at c =
-    next_given _ _ _ _ _ _ _ c.if-chunk_len.false c.if-index-gt-MAX_INDEX.false _ c.block_allowed.ensures c.if-block_allowed.true _ (accepted (goal.at.returns-else-bytes_of-at c).In-Accepted) _ _ c.cut-read.ensures (omega (arith, c.if-bytes_of-at.false, c.bytes_of.ensures)) _ c.piece_at-piece.ensures _ c.behind.ensures
+returns c =
+    next_given _ _ _ _ _ _ _ c.if-chunk_len.false c.if-index-gt-MAX_INDEX.false _ c.block_allowed.ensures c.if-not-block_allowed.false _ (accepted (goal.at.returns c).In_ok-check_list) _ _ c.cut-read.ensures (omega (arith, c.if-bytes_of-at.false, c.bytes_of.ensures)) _ c.piece_at-piece.ensures _ c.behind.ensures
 
-pub returns-else-block_allowed : goal.returns-else-block_allowed
+pub returns-then-not-block_allowed : goal.returns-then-not-block_allowed
 unfolding chunk
-returns-else-block_allowed c =
-    next_refused _ _ _ _ _ _ _ _ _ (chunk_8 _ _ _ _ _ c.if-chunk_len.false c.if-index-gt-MAX_INDEX.false _ c.block_allowed.ensures c.if-block_allowed.false) c.refusal-else-block_allowed.ensures
+returns-then-not-block_allowed c =
+    next_refused _ _ _ _ _ _ _ _ _ (chunk_8 _ _ _ _ _ c.if-chunk_len.false c.if-index-gt-MAX_INDEX.false _ c.block_allowed.ensures c.if-not-block_allowed.true) c.refusal-then-not-block_allowed.ensures
