@@ -7,10 +7,7 @@ pub fn put(out: &mut [u8], at: usize, s: &[u8]) -> usize
     requires { at + length s.now ≤ length out.old }
     ensures { (result ≡ at + length s.now) × (out.new ≡ splice out.old at s.now) }
 {
-    let mut k = 0;
-    while k < s.len() {
-        out[at + k] = s[k];
-        k += 1;
-    }
-    at + k
+    let end = at + s.len();
+    out[at..end].copy_from_slice(s);
+    end
 }
