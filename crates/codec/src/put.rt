@@ -7,10 +7,9 @@ pub fn put(out: &mut [u8], at: usize, s: &[u8]) -> usize
     requires { at + length s.now ≤ length out.old }
     ensures { (result ≡ at + length s.now) × (out.new ≡ splice out.old at s.now) }
 {
-    let mut k = 0;
-    while k < s.len() {
-        out[at + k] = s[k];
-        k += 1;
+    // The library's copy takes more time, since most texts are short.
+    for (k, byte) in s.iter().enumerate() {
+        out[at + k] = *byte;
     }
-    at + k
+    at + s.len()
 }

@@ -10,12 +10,6 @@ pub enum Step {
     Stop(usize),
 }
 
-fn wide(b: u8) -> u64
-    ensures { result ≡ b }
-{
-    b as u64
-}
-
 // What the digit at a place stands for, and 10 where there is none.
 fn digit_at(text: &[u8], i: usize) -> u64
     ensures { result ≡ digit_at (drop i text.now) }
@@ -30,7 +24,7 @@ fn digit_at(text: &[u8], i: usize) -> u64
     if 57 < b {
         return 10;
     }
-    wide(b) - 48
+    u64::from(b) - 48
 }
 
 // Whether d may be a number's first digit.
@@ -70,6 +64,7 @@ pub fn read_decimal(text: &[u8], at: usize, least: u64, most: u64) -> Step
     if !opens(value, least, most) {
         return Step::Stop(at);
     }
+    // An index loop: a number ends at a byte that is no digit as it does at the text's end, and a `for` has to end it at two places.
     let mut i = at + 1;
     let mut d = digit_at(text, i);
     while d < 10 {

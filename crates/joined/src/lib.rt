@@ -32,14 +32,11 @@ pub fn adds_up(lengths: &[u64], bytes: usize) -> bool
     ensures { result ≡ eqb (total lengths.now) bytes }
 {
     let mut left = bytes as u64;
-    let mut i = 0;
-    while i < lengths.len() {
-        let n = lengths[i];
+    for &n in lengths {
         if left < n {
             return false;
         }
         left -= n;
-        i += 1;
     }
     left == 0
 }

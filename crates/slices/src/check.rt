@@ -57,18 +57,12 @@ fn sound(list: &[u8]) -> usize
     ensures { Sound list.now result }
 {
     let n = list.len() / RECORD;
-    let mut i = 0;
-    while i < n {
-        if check_record(records::read_record(list, i)) != 0 {
-            return i;
-        }
-        if sizes::agrees(list, i) {
-            i += 1;
-        } else {
+    for i in 0..n {
+        if check_record(records::read_record(list, i)) != 0 || !sizes::agrees(list, i) {
             return i;
         }
     }
-    i
+    n
 }
 
 // The place of the first refused record, or the number of records, where those before `from` pass. Ids that rise from record to record need no search.
@@ -81,14 +75,12 @@ fn first_refused(list: &[u8], from: usize, highest: u64) -> usize
 {
     let n = list.len() / RECORD;
     let mut last = highest;
-    let mut i = from;
-    while i < n {
+    for i in from..n {
         let r = records::read_record(list, i);
         if check_record(r) != 0 {
             return i;
         }
         last = sizes::risen(last, r.id);
-        i += 1;
     }
     if last < sizes::FELL {
         return n;

@@ -10,12 +10,5 @@ pub fn stands(list: &[u8], id: u64) -> bool
     ensures { result ≡ stands id (records list.now) }
 {
     let n = list.len() / RECORD;
-    let mut i = 0;
-    while i < n {
-        if records::read_id(list, i) == id {
-            return true;
-        }
-        i += 1;
-    }
-    false
+    (0..n).any(|i| records::read_id(list, i) == id)
 }

@@ -26,12 +26,10 @@ fn first_with(list: &[u8], i: usize, id: u64) -> usize
     requires { i ≤ count list.now }
     ensures { FirstWith list.now i id result }
 {
-    let mut j = 0;
-    while j < i {
+    for j in 0..i {
         if records::read_id(list, j) == id {
             return j;
         }
-        j += 1;
     }
     i
 }
@@ -46,8 +44,5 @@ pub(crate) fn agrees(list: &[u8], i: usize) -> bool
         return true;
     }
     let first = first_with(list, i, id);
-    if records::read_size(list, first) == records::read_size(list, i) {
-        return true;
-    }
-    false
+    records::read_size(list, first) == records::read_size(list, i)
 }

@@ -30,12 +30,6 @@ pub enum Spot {
     Free(usize),
 }
 
-fn wide(x: u16) -> usize
-    ensures { result ≡ x }
-{
-    x as usize
-}
-
 // The root of an id, by its low bits where the number of roots is a power of two.
 fn root_of(roots: u64, id: u64) -> usize
     requires { 0 < roots }
@@ -54,7 +48,7 @@ fn search(list: &[u8], table: &[u16], roots: u64, i: usize, id: u64) -> Spot
     // Behind the bits that tell the roots of the smaller table.
     let mut left = id / 512;
     loop {
-        let entry = wide(table[s]);
+        let entry = usize::from(table[s]);
         if entry == 0 {
             return Spot::Free(s);
         }
@@ -78,12 +72,7 @@ fn enter(list: &[u8], table: &mut [u16], roots: u64, i: usize) -> bool
         return true;
     }
     match search(list, table, roots, i, id) {
-        Spot::Node(node) => {
-            if records::read_size(list, node) == records::read_size(list, i) {
-                return true;
-            }
-            false
-        }
+        Spot::Node(node) => records::read_size(list, node) == records::read_size(list, i),
         Spot::Free(s) => {
             table[s] = (i + 1) as u16;
             true
@@ -97,11 +86,8 @@ fn search_with(list: &[u8], table: &mut [u16], roots: u64) -> usize
     ensures { FirstOther list.now result }
 {
     let n = list.len() / RECORD;
-    let mut i = 0;
-    while i < n {
-        if enter(list, table, roots, i) {
-            i += 1;
-        } else {
+    for i in 0..n {
+        if !enter(list, table, roots, i) {
             return i;
         }
     }

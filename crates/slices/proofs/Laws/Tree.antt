@@ -9,7 +9,7 @@ use mathlib.Core.List.{List}
 use lib.Dec.{eqb}
 use lib.ListN.{length, get_or, set, replicate, length-set, length-replicate}
 use lib.Seq.{get_or-set_same, get_or-set_other}
-use borrow.Author.Tests.{eqb-false, ne_eqb}
+use borrow.Author.Tests.{eqb-true, eqb-false, ne_eqb}
 use Rattle.slices.specs.Limits.{max_records}
 use Rattle.slices.specs.Record.{record_at, count}
 use Rattle.slices.specs.Tree.{root_of, branch, Leads, here, on, Finds, Known, Tree, Extends, Way, AtNode, AtFree, Room, Entered}
@@ -199,6 +199,13 @@ module _ (bs table : List ℕ) (roots i : ℕ) (r : Room bs table roots i) where
 
     pub enter_other : (record_at bs node).size ≢ (record_at bs i).size → Entered bs table roots i false
     enter_other e = record { says = place_other bs i node a.below (λ g. e (g nz a.has)); tree = λ y. absurd (false≢true y) }
+
+    pub enter_node : Entered bs table roots i (eqb (record_at bs node).size (record_at bs i).size)
+    enter_node = go (eqb (record_at bs node).size (record_at bs i).size) refl
+      where
+        go : (t : Bool) → eqb (record_at bs node).size (record_at bs i).size ≡ t → Entered bs table roots i t
+        go true e = enter_same (eqb-true _ _ e)
+        go false e = enter_other (eqb-false _ _ e)
 
   pub enter_new : (record_at bs i).id ≢ 0 → (s : ℕ) → AtFree (record_at bs) table roots i (record_at bs i).id s → s < length table → Entered bs (set table s (suc i)) roots i true
   enter_new nz s a l =

@@ -25,4 +25,4 @@ returns-then-b-gt57 c =
 pub returns : goal.returns
 unfolding digit_at digit_of
 returns c =
-    let a = c.args in rw (drop-cons a.text.now a.i 0 c.if-text-i.false) (simp (le-leb _ _ c.if-b-lt48.false, le-leb _ _ c.if-b-gt57.false) (ap (λ (x : ℕ). x - 48) c.wide.ensures))
+    let a = c.args in rw (drop-cons a.text.now a.i 0 c.if-text-i.false) (simp (le-leb _ _ c.if-b-lt48.false, le-leb _ _ c.if-b-gt57.false) (ap (λ (x : ℕ). x - 48) c.from.ensures))

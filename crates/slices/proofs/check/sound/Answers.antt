@@ -1,7 +1,10 @@
 -- `slices::check::sound` meets its contract. The invariant: the records before i are sound. Assumes nothing.
 use Prim.Native.Nat.{zero-le}
 use native.Mathlib.Omega.{arith}
-use mathlib.Core.Path.{sym, ap, ◌∙◌}
+use mathlib.Core.Path.{◌≡◌, sym, ap, ◌∙◌}
+use Prim.Native.Nat.{◌/◌}
+use lib.ListN.{length}
+use Rattle.slices.specs.Limits.{record_size}
 use Rattle.slices.specs.Record.{count}
 use Rattle.slices.specs.Inner.{fault}
 use Rattle.slices.proofs.Laws.Sizes.{one_more, agreed_none}
@@ -25,11 +28,10 @@ loop-i-preserved c =
     record {
       within = omega (arith, c.loop-i-test.true);
       passed = one_more _ _ l.passed (sym e ∙ c.if-check_record-ne0.false);
-      agreed = c.agrees.ensures c.if-agrees.true l.agreed;
+      agreed = c.agrees.ensures c.if-not-agrees.false l.agreed;
     }
 
-pub returns-else-agrees : goal.returns-else-agrees
-returns-else-agrees c = c.loop-i.invariant
-
 pub returns : goal.returns
-returns c = c.loop-i.invariant
+returns c =
+    let e : c.loop-i.i ≡ length c.args.list.now / record_size = omega arith in
+    rw e at c.loop-i.invariant

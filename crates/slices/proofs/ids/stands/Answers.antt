@@ -1,26 +1,23 @@
--- `slices::ids::stands` meets its contract. The invariant: the id stands in the list if it stands in the records from i on.
--- Assumes nothing.
-use Prim.Native.Nat.{zero-le}
+-- `slices::ids::stands` meets its contract: the id stands in the list if it is that of some record. Assumes nothing.
+use Rattle.std.proofs.Common.{rules}
+use Rattle.std.proofs.lemmas.Iterator.{YieldsList-from_range}
+use Rattle.std.proofs.lemmas.Iterator.Search.{any_from_yields_List}
+use borrow.Author.Tests.{tests}
+use mathlib.Core.Path.{◌≡◌, refl, ◌∙◌}
 use native.Mathlib.Omega.{arith}
-use mathlib.Core.Path.{sym, ap, ◌∙◌}
-use Rattle.slices.specs.Record.{count}
-use Rattle.slices.specs.Ids.{stands}
-use Rattle.slices.proofs.Laws.Left.{left_all, stands_here, stands_next, stands_none}
+use Prim.Native.Nat.{◌-◌, ◌/◌}
+use lib.ListN.{length}
+use Rattle.slices.specs.Limits.{record_size}
+use lib.Dec.{eqb}
+use Rattle.slices.specs.Record.{record_at, records, count}
+use Rattle.slices.proofs.Laws.Left.{stands_any}
 use Rattle.slices.proofs.ids.stands.Goals as goal
 
-pub loop-i-init : goal.loop-i-init
-loop-i-init c = (zero-le, ap (stands _) (left_all _))
-
-pub returns-then-read_id-id : goal.returns-then-read_id-id
-unfolding count
-returns-then-read_id-id c =
-    stands_here _ _ _ c.loop-i-test.true (sym c.read_id.ensures ∙ c.if-read_id-id.true) ∙ c.loop-i.invariant.1
-
-pub loop-i-preserved : goal.loop-i-preserved
-unfolding count
-loop-i-preserved c =
-    (omega arith, sym (stands_next _ _ _ c.loop-i-test.true (λ e. c.if-read_id-id.false (c.read_id.ensures ∙ e))) ∙ c.loop-i.invariant.1)
-
 pub returns : goal.returns
-unfolding count
-returns c = stands_none _ _ _ c.loop-i-test.false ∙ c.loop-i.invariant.1
+unfolding records count
+returns c =
+    let a = c.args in
+    let n = length a.list.now / record_size in
+    let e : n - 0 ≡ n = omega arith in
+    any_from_yields_List (λ i. eqb (record_at a.list.now i).id a.id) _ _ _ c.any.ensures.ran (YieldsList-from_range 0 n n refl e) (λ x b q k. search (rules, tests))
+    ∙ stands_any a.list.now a.id 0 n

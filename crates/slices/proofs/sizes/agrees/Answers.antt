@@ -2,7 +2,7 @@
 use native.Mathlib.Omega.{arith}
 use native.Mathlib.Decide.{dec_lt}
 use mathlib.Core.Path.{sym, ◌∙◌}
-use mathlib.Core.Bool.{false≢true}
+use borrow.Author.Tests.{eqb-true}
 use Rattle.slices.specs.Record.{count}
 use Rattle.slices.proofs.Laws.Sizes.{agreed_zeros, agreed_new, agreed_first}
 use Rattle.slices.proofs.sizes.agrees.Goals as goal
@@ -22,15 +22,12 @@ pub read_size-requires-2 : goal.read_size-requires-2
 unfolding count
 read_size-requires-2 c = omega arith
 
-pub returns-then-read_size : goal.returns-then-read_size
-returns-then-read_size c z a =
+pub returns : goal.returns
+returns c z a =
     let id = c.read_id-id.ensures in
     let first = c.first_with-first.ensures in
     elim (dec_lt c.first_with-first.result c.args.i) [
       | yes l ↦
-          agreed_first _ _ a _ l (first.has l ∙ id) (λ k h e. first.none k h (e ∙ sym id)) (sym c.read_size.ensures ∙ c.if-read_size.true ∙ c.read_size-2.ensures)
+          agreed_first _ _ a _ l (first.has l ∙ id) (λ k h e. first.none k h (e ∙ sym id)) (sym c.read_size.ensures ∙ eqb-true _ _ z ∙ c.read_size-2.ensures)
       | no l ↦ agreed_new _ _ a (λ k h e. first.none k (omega arith) (e ∙ sym id))
     ]
-
-pub returns : goal.returns
-returns c z = absurd (false≢true z)

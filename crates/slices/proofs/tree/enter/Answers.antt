@@ -7,7 +7,7 @@ use mathlib.Core.Logic.{◌≢◌}
 use lib.ListN.{length}
 use Rattle.slices.specs.Record.{record_at, count}
 use Rattle.slices.specs.Tree.{AtNode, AtFree}
-use Rattle.slices.proofs.Laws.Tree.{enter_zeros, enter_same, enter_other, enter_new}
+use Rattle.slices.proofs.Laws.Tree.{enter_zeros, enter_node, enter_new}
 use Rattle.slices.proofs.tree.enter.Goals as goal
 use Rattle.slices.proofs.tree.enter.Goals.{Else-id-eq0, In-Free, In-Node}
 
@@ -47,10 +47,9 @@ pub read_size-requires-in-Node : goal.read_size-requires-in-Node
 unfolding count
 read_size-requires-in-Node c = omega arith
 
-pub returns-then-read_size : goal.returns-then-read_size
-returns-then-read_size c =
-    enter_same _ _ _ _ c.requires.room (some_id (goal.at.returns-then-read_size c).Else-id-eq0) _ (at_node (goal.at.returns-then-read_size c).In-Node)
-    (sym c.read_size.ensures ∙ c.if-read_size.true ∙ c.read_size-in-Node.ensures)
+pub returns-in-Node : goal.returns-in-Node
+returns-in-Node c =
+    rw (c.read_size.ensures, c.read_size-in-Node.ensures) (enter_node _ _ _ _ c.requires.room (some_id (goal.at.returns-in-Node c).Else-id-eq0) _ (at_node (goal.at.returns-in-Node c).In-Node))
 
 pub overflow_add-table : goal.overflow_add-table
 unfolding count
@@ -65,11 +64,6 @@ offset_bounds-table-s c = let l = free_in c in omega arith
 
 pub bounds-table-s : goal.bounds-table-s
 bounds-table-s c = free_in c
-
-pub returns-else-read_size : goal.returns-else-read_size
-returns-else-read_size c =
-    enter_other _ _ _ _ c.requires.room (some_id (goal.at.returns-else-read_size c).Else-id-eq0) _ (at_node (goal.at.returns-else-read_size c).In-Node)
-    (λ z. c.if-read_size.false (c.read_size.ensures ∙ z ∙ sym c.read_size-in-Node.ensures))
 
 pub returns-in-Free : goal.returns-in-Free
 returns-in-Free c =

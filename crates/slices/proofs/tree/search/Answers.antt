@@ -10,12 +10,12 @@ use Rattle.slices.proofs.tree.search.Goals.{Else-entry-eq0}
 
 -- the entry is a record of the tree
 entry_is : (c : Else-entry-eq0)
-    → get_or c.args.table.now c.loop-roots.s 0 ≡ suc (c.wide-entry.result - 1)
-entry_is c = let e = c.wide-entry.ensures in omega (arith, c.if-entry-eq0.false)
+    → get_or c.args.table.now c.loop-roots.s 0 ≡ suc (c.from-entry.result - 1)
+entry_is c = let e = c.from-entry.ensures in omega (arith, c.if-entry-eq0.false)
 
-in_tree : (c : Else-entry-eq0) → c.wide-entry.result - 1 < c.args.i
+in_tree : (c : Else-entry-eq0) → c.from-entry.result - 1 < c.args.i
 in_tree c =
-    let e = c.wide-entry.ensures in
+    let e = c.from-entry.ensures in
     let b = c.requires.room.tree.below c.loop-roots.s in
     omega (arith, c.if-entry-eq0.false)
 
@@ -35,7 +35,7 @@ bounds-table-s c = omega (arith, c.loop-roots.invariant.inside, c.requires.room.
 
 pub returns-then-entry-eq0 : goal.returns-then-entry-eq0
 returns-then-entry-eq0 c =
-    record { left = c.loop-roots.left; way = c.loop-roots.invariant; free = sym c.wide-entry.ensures ∙ c.if-entry-eq0.true }
+    record { left = c.loop-roots.left; way = c.loop-roots.invariant; free = sym c.from-entry.ensures ∙ c.if-entry-eq0.true }
 
 pub overflow_sub-node : goal.overflow_sub-node
 overflow_sub-node c = omega (arith, c.if-entry-eq0.false)

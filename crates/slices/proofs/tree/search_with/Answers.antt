@@ -18,17 +18,17 @@ unfolding count
 loop-i-preserved c =
     let e = c.enter.ensures in (
       c.enter.auto.table ∙ c.loop-i.invariant.0,
-      e.tree c.if-enter.true,
-      c.loop-i.invariant.2 ∙ sizes_next _ _ c.loop-i-test.true (e.says ∙ ap not c.if-enter.true),
+      e.tree c.if-not-enter.false,
+      c.loop-i.invariant.2 ∙ sizes_next _ _ c.loop-i-test.true (e.says ∙ ap not c.if-not-enter.false),
     )
 
-pub shape_of-table-else-enter : goal.shape_of-table-else-enter
-shape_of-table-else-enter c = c.enter.auto.table ∙ c.loop-i.invariant.0
+pub shape_of-table-then-not-enter : goal.shape_of-table-then-not-enter
+shape_of-table-then-not-enter c = c.enter.auto.table ∙ c.loop-i.invariant.0
 
-pub returns-else-enter : goal.returns-else-enter
+pub returns-then-not-enter : goal.returns-then-not-enter
 unfolding count
-returns-else-enter c =
-    other_here _ _ c.loop-i-test.true c.loop-i.invariant.2 (c.enter.ensures.says ∙ ap not c.if-enter.false)
+returns-then-not-enter c =
+    other_here _ _ c.loop-i-test.true c.loop-i.invariant.2 (c.enter.ensures.says ∙ ap not c.if-not-enter.true)
 
 pub shape_of-table : goal.shape_of-table
 shape_of-table c = c.loop-i.invariant.0

@@ -1,6 +1,5 @@
 -- `slices::tree::search_with` meets its contract. The invariant: the tree has the first i records, and what is said of the list is said of its
 -- records from i on. Assumes nothing.
-use Prim.Native.Nat.{◌-◌}
 use mathlib.Core.Path.{◌≡◌}
 use lib.ListN.{length}
 use Rattle.slices.specs.Inner.{size_outcome}
@@ -10,6 +9,3 @@ use Rattle.slices.proofs.tree.search_with.Given as goal
 
 abbrev pub invariant-loop-i : goal.invariant-loop-i
 invariant-loop-i l = (length l.table ≡ length l.initial.table) × Room l.list l.table l.roots l.i × (size_outcome l.list ≡ sizes_from l.list l.i)
-
-abbrev pub decreases-loop-i : goal.decreases-loop-i
-decreases-loop-i l = l.n - l.i
