@@ -53,7 +53,7 @@ pub fn find(row: &[Record], number: usize, position: u64) -> Found
     if n == 0 {
         return Found::Nowhere;
     }
-    let k = lent::halve(row, n, position);
+    let k = half::halve(|i| row[i].pos, n, position);
     half::if_held(position, k, row[k])
 }
 
