@@ -4,7 +4,6 @@ ghost use Rattle.sorting.specs.Sorted.{Sorted};
 ghost use Rattle.coverage.specs.Inner.{Lying, Chained};
 
 use crate::keys::ABOVE;
-use sorting::passes;
 
 // How far the first c keys, in order, go on from `cur` with neither a gap nor a place twice.
 pub(crate) fn chain(keys: &[u64], order: &[u16], c: usize, cur: u32) -> u32
@@ -12,9 +11,8 @@ pub(crate) fn chain(keys: &[u64], order: &[u16], c: usize, cur: u32) -> u32
     ensures { Chained keys.now c cur result }
 {
     let mut q = cur;
-    let mut k = 0;
-    while k < c {
-        let key = keys[passes::wide(order[k])];
+    for number in &order[..c] {
+        let key = keys[*number as usize];
         let start = (key / ABOVE) as u32;
         if start < q {
             return start;
@@ -23,7 +21,6 @@ pub(crate) fn chain(keys: &[u64], order: &[u16], c: usize, cur: u32) -> u32
             return q;
         }
         q = start + (key % ABOVE) as u32;
-        k += 1;
     }
     q
 }

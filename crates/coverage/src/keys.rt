@@ -58,11 +58,9 @@ pub(crate) fn collect(plan: &[u8], low: u32, n: u32, keys: &mut [u64]) -> Window
     requires { (low < n) × (0 < length keys.old) × (length keys.old < 2 ^ 16) }
     ensures { Windowed plan.now low n (whole plan.now) keys.new result.high result.count }
 {
-    let pieces = plan.len() / PIECE;
     let mut high = n;
     let mut count = 0;
-    let mut i = 0;
-    while i < pieces {
+    for i in 0..plan.len() / PIECE {
         let window = put(plan, i, low, high, keys, count);
         high = window.high;
         count = window.count;
@@ -72,7 +70,6 @@ pub(crate) fn collect(plan: &[u8], low: u32, n: u32, keys: &mut [u64]) -> Window
                 count: 0,
             };
         }
-        i += 1;
     }
     Window { high, count }
 }

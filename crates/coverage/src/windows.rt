@@ -15,10 +15,7 @@ pub(crate) struct Window {
 fn begins(key: u64, high: u32) -> usize
     ensures { (result ≡ one_if (ltb (key / above) high)) × (result ≤ 1) }
 {
-    if key / ABOVE < high as u64 {
-        return 1;
-    }
-    0
+    (key / ABOVE < high as u64) as usize
 }
 
 // Moves the keys that begin before `high` to the front: how many they are.
@@ -26,12 +23,10 @@ fn keep(keys: &mut [u64], high: u32) -> usize
     ensures { Kept keys.old (length keys.old) high keys.new result }
 {
     let mut kept = 0;
-    let mut i = 0;
-    while i < keys.len() {
+    for i in 0..keys.len() {
         let key = keys[i];
         keys[kept] = key;
         kept += begins(key, high);
-        i += 1;
     }
     kept
 }
@@ -40,12 +35,7 @@ fn keep(keys: &mut [u64], high: u32) -> usize
 fn mean(keys: &[u64]) -> u64
     requires { (0 < length keys.now) × (length keys.now < 2 ^ 16) }
 {
-    let mut sum: u64 = 0;
-    let mut i = 0;
-    while i < keys.len() {
-        sum += keys[i] / ABOVE;
-        i += 1;
-    }
+    let sum: u64 = keys.iter().map(|key| key / ABOVE).sum();
     sum / keys.len() as u64
 }
 

@@ -1,3 +1,2 @@
 pub mod History
 pub mod Exchange
-pub mod Inner

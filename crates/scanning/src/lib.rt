@@ -48,9 +48,7 @@ fn last_before(list: &[u8], i: usize, p: u32) -> u16
     requires i_bound { (i ≤ count list.now) × (count list.now ≤ max_records) }
     ensures { LastBefore list.now i p result }
 {
-    let mut k = i;
-    while 0 < k {
-        k -= 1;
+    for k in (0..i).rev() {
         if covers(list, k, p) {
             return (k + 1) as u16;
         }
@@ -123,9 +121,7 @@ pub fn scan(list: &[u8], p: u32, end: u32) -> Scanned
     ensures { Scans list.now p end result }
 {
     let mut near = Near { at: end, top: 0 };
-    let mut i = list.len() / RECORD;
-    while 0 < i {
-        i -= 1;
+    for i in (0..list.len() / RECORD).rev() {
         if covers(list, i, p) {
             return found(list, i, p, end, near);
         }

@@ -39,7 +39,7 @@ pub fn find(row: &[Record], number: usize, position: u64) -> Option<Found>
     if n == 0 {
         return None;
     }
-    let k = lent::halve(row, n, position);
+    let k = half::halve(|i| row[i].pos, n, position);
     half::if_held(position, k, row[k])
 }
 

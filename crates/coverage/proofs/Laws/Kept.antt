@@ -1,10 +1,10 @@
 -- Laws of the keys that are kept where a window is narrowed. Assumes nothing.
-use Prim.Native.Nat.{ℕ, suc, ◌+◌, ◌*◌, ◌/◌, ◌%◌, ◌^◌, ◌≤◌, ◌<◌}
+use Prim.Native.Nat.{ℕ, suc, ◌+◌, ◌/◌, ◌%◌, ◌≤◌, ◌<◌}
 use native.Mathlib.Omega.{arith}
 use native.Mathlib.Decide.{ℕ_discrete, dec_lt}
 use native.Mathlib.Nat.{add-zero}
 use native.Mathlib.Numerals.{add-one}
-use mathlib.Core.Path.{◌≡◌, refl, sym, ap, subst, ◌∙◌}
+use mathlib.Core.Path.{◌≡◌, refl, sym, subst, ◌∙◌}
 use mathlib.Core.Bool.{Bool, true, false, ◌&&◌, and-false}
 use mathlib.Core.List.{List}
 use lib.Dec.{ltb}
@@ -13,22 +13,6 @@ use lib.Seq.{get_or-set_same, get_or-set_other}
 use borrow.Author.Tests.{lt-ltb, le-ltb, ltb-true}
 use Rattle.coverage.specs.Inner.{one_if, count_below, above, start_at, len_at, keys_that, Kept, Narrowed}
 use Rattle.coverage.proofs.Laws.Count.{count_same}
-
--- ---- a key and the end of a window
-
-pub one_before : (s high : ℕ) → s < high → 1 ≡ one_if (ltb s high)
-one_before s high l = sym (ap one_if (lt-ltb s high l))
-
-pub none_behind : (s high : ℕ) → high ≤ s → 0 ≡ one_if (ltb s high)
-none_behind s high l = sym (ap one_if (le-ltb s high l))
-
--- ---- places added up
-
-pub start_small : (key : ℕ) → key < 2 ^ 64 → key / above < above
-start_small key l = omega arith
-
-pub sum_small : (sum i m s : ℕ) → sum ≤ i * above → i < m → m < 2 ^ 16 → s < above → sum + s < 2 ^ 64
-sum_small sum i m s a b d e = omega arith
 
 -- ---- a key is stored
 

@@ -6,6 +6,3 @@ use Rattle.scanning.proofs.scan.Given as goal
 
 abbrev pub invariant-loop-i : goal.invariant-loop-i
 invariant-loop-i l = (l.i ≤ count l.list) × Nearest l.list l.i l.p l.end l.near.at l.near.top
-
-abbrev pub decreases-loop-i : goal.decreases-loop-i
-decreases-loop-i l = l.i

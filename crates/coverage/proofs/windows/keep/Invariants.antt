@@ -1,13 +1,9 @@
 -- `coverage::windows::keep` meets its contract. The invariant: of the first i keys those that begin before `high` are kept, and the others stand as they
 -- stood. Assumes nothing.
-use Prim.Native.Nat.{◌-◌, ◌≤◌}
 use mathlib.Core.Path.{◌≡◌}
 use lib.ListN.{length}
 use Rattle.coverage.proofs.Laws.Kept.{Keeping}
 use Rattle.coverage.proofs.windows.keep.Given as goal
 
 abbrev pub invariant-loop-i : goal.invariant-loop-i
-invariant-loop-i l = (l.i ≤ length l.keys) × (length l.keys ≡ length l.initial.keys) × Keeping l.initial.keys l.i l.high l.keys l.kept
-
-abbrev pub decreases-loop-i : goal.decreases-loop-i
-decreases-loop-i l = length l.keys - l.i
+invariant-loop-i l = (length l.keys ≡ length l.initial.keys) × Keeping l.initial.keys l.i l.high l.keys l.kept

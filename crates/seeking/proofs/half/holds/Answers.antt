@@ -3,10 +3,10 @@ use borrow.Author.Tests.{lt-leb, le-leb}
 use Rattle.slices.specs.Cover.{covers}
 use Rattle.seeking.proofs.half.holds.Goals as goal
 
-pub returns-then-position-pos : goal.returns-then-position-pos
+pub returns-then-pos-position : goal.returns-then-pos-position
 unfolding covers
-returns-then-position-pos c = rw (lt-leb _ _ c.if-position-pos.true)
+returns-then-pos-position c = rw (le-leb _ _ c.if-pos-position.true)
 
-pub returns : goal.returns
+pub returns-else-pos-position : goal.returns-else-pos-position
 unfolding covers
-returns c = rw (le-leb _ _ c.if-position-pos.false)
+returns-else-pos-position c = rw (lt-leb _ _ c.if-pos-position.false)
