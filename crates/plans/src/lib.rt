@@ -104,7 +104,7 @@ pub fn read_plan(
                 let read = cut(chunk_len, start, count);
                 let n = list.len() / RECORD;
                 if n <= 32 {
-                    return rooms::small(
+                    return rooms::sized::<32, 66, 65>(
                         list,
                         read.from,
                         read.end,

@@ -15,27 +15,29 @@ use Rattle.views.proofs.tidy.Goals.{In-Accepted}
 accepted : (c : In-Accepted) → checked (check_outcome c.args.list.now) ≡ Accepted c.in-Accepted.field-0
 accepted c = sym c.check_list.ensures ∙ c.in-Accepted.is
 
-pub few-requires : goal.few-requires
+pub sized-requires-clause-all : goal.sized-requires-clause-all
+sized-requires-clause-all c = (check_accepts _ _ (accepted (goal.at.sized-requires-clause-all c).In-Accepted)).pass
+
+pub sized-requires-clause-list_bound : goal.sized-requires-clause-list_bound
 unfolding chunk count
-few-requires c =
-    let a = check_accepts _ _ (accepted (goal.at.few-requires c).In-Accepted) in
-    record { all = a.pass; list_bound = (c.if-n-le4.true, le_refl _) }
+sized-requires-clause-list_bound c = (c.if-n-le4.true, le_refl _)
 
 pub returns-then-n-le4 : goal.returns-then-n-le4
 unfolding chunk
 returns-then-n-le4 c =
-    answers_as _ _ _ _ _ (tidy_runs _ _ (accepted (goal.at.returns-then-n-le4 c).In-Accepted) _) c.few.ensures
+    answers_as _ _ _ _ _ (tidy_runs _ _ (accepted (goal.at.returns-then-n-le4 c).In-Accepted) _) c.sized.ensures
 
-pub small-requires : goal.small-requires
+pub sized-requires-then-n-le32-clause-all : goal.sized-requires-then-n-le32-clause-all
+sized-requires-then-n-le32-clause-all c = (check_accepts _ _ (accepted (goal.at.sized-requires-then-n-le32-clause-all c).In-Accepted)).pass
+
+pub sized-requires-then-n-le32-clause-list_bound : goal.sized-requires-then-n-le32-clause-list_bound
 unfolding chunk count
-small-requires c =
-    let a = check_accepts _ _ (accepted (goal.at.small-requires c).In-Accepted) in
-    record { all = a.pass; list_bound = (c.if-n-le32.true, le_refl _) }
+sized-requires-then-n-le32-clause-list_bound c = (c.if-n-le32.true, le_refl _)
 
 pub returns-then-n-le32 : goal.returns-then-n-le32
 unfolding chunk
 returns-then-n-le32 c =
-    answers_as _ _ _ _ _ (tidy_runs _ _ (accepted (goal.at.returns-then-n-le32 c).In-Accepted) _) c.small.ensures
+    answers_as _ _ _ _ _ (tidy_runs _ _ (accepted (goal.at.returns-then-n-le32 c).In-Accepted) _) c.sized-then-n-le32.ensures
 
 pub many-requires : goal.many-requires
 unfolding chunk
