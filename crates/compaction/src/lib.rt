@@ -39,7 +39,7 @@ fn planned(list: &[u8], from: u32, end: u32, block: u32, index: u32, plan: &mut 
 {
     let n = list.len() / RECORD;
     if n <= 32 {
-        return rooms::small(list, from, end, block, index, plan);
+        return rooms::sized::<32, 66, 65>(list, from, end, block, index, plan);
     }
     rooms::many(list, from, end, block, index, plan)
 }

@@ -4,7 +4,7 @@ ghost use Rattle.codec.specs.All.{All};
 ghost use Rattle.codec.specs.Splice.{splice};
 ghost use Rattle.blocks.specs.Blocks.{block_allowed};
 ghost use Rattle.slices.specs.Accepts.{Accepts};
-ghost use Rattle.slices.specs.Limits.{record_size};
+ghost use Rattle.slices.specs.Limits.{max_records, record_size};
 ghost use Rattle.joined.specs.Lists.{total, parts};
 ghost use Rattle.plans.specs.Inner.{Shifts};
 ghost use Rattle.plans.specs.Piece.{piece_size};
@@ -28,8 +28,8 @@ fn roomy(bytes: usize, lists: usize, from: u32, end: u32, bits: u32, room: usize
 }
 
 // Writes the pieces of the positions from `from` up to `end` to the front of a buffer that has room for them, or only counts their bytes; how many
-// bytes they have. For lists of at most 256 records together.
-fn in_small_room(
+// bytes they have. The lists have at most N records each.
+fn sized<const N: usize, const MARKS: usize, const TOPS: usize>(
     lists: &[u8],
     lengths: &[u64],
     first: u32,
@@ -41,48 +41,19 @@ fn in_small_room(
     out: &mut [u8],
 ) -> usize
     requires lengths_value { (total lengths.now ≡ length lists.now) × All Accepts (parts lengths.now lists.now) }
-    requires lists_len_bound { length lists.now ≤ 256 * record_size }
+    requires lists_len_bound { N < max_records → length lists.now ≤ N * record_size }
     requires lengths_len_bound { (length lengths.now ≤ max_lists) × (first + length lengths.now ≤ 2 ^ 32) × Shifts block bits }
     requires lists_in_bounds { write ≡ true → length (bytes_of first block from end 0 (parts lengths.now lists.now)) ≤ length out.old }
+    requires room { (N ≤ max_records) × (MARKS ≡ N + N + 2) × (TOPS ≡ N + N + 1) }
     ensures value { result ≡ length (bytes_of first block from end 0 (parts lengths.now lists.now)) }
     ensures out_after { out.new ≡ cond write (splice out.old 0 (bytes_of first block from end 0 (parts lengths.now lists.now))) out.old }
 {
-    let mut marks = [0u32; 514];
-    let mut tops = [0u16; 513];
-    let mut pos = [0u64; 256];
-    let mut ends = [0u32; 256];
-    let mut order = [0u16; 256];
-    let mut spare = [0u16; 256];
-    walk::walk_lists(
-        lists, lengths, first, from, end, block, bits, write, out, &mut marks, &mut tops, &mut pos,
-        &mut ends, &mut order, &mut spare,
-    )
-}
-
-// The same for all lists that are accepted.
-fn in_large_room(
-    lists: &[u8],
-    lengths: &[u64],
-    first: u32,
-    from: u32,
-    end: u32,
-    block: u32,
-    bits: u32,
-    write: bool,
-    out: &mut [u8],
-) -> usize
-    requires lengths_value { (total lengths.now ≡ length lists.now) × All Accepts (parts lengths.now lists.now) }
-    requires lengths_len_bound { (length lengths.now ≤ max_lists) × (first + length lengths.now ≤ 2 ^ 32) × Shifts block bits }
-    requires lists_in_bounds { write ≡ true → length (bytes_of first block from end 0 (parts lengths.now lists.now)) ≤ length out.old }
-    ensures value { result ≡ length (bytes_of first block from end 0 (parts lengths.now lists.now)) }
-    ensures out_after { out.new ≡ cond write (splice out.old 0 (bytes_of first block from end 0 (parts lengths.now lists.now))) out.old }
-{
-    let mut marks = [0u32; 4098];
-    let mut tops = [0u16; 4097];
-    let mut pos = [0u64; 2048];
-    let mut ends = [0u32; 2048];
-    let mut order = [0u16; 2048];
-    let mut spare = [0u16; 2048];
+    let mut marks = [0u32; MARKS];
+    let mut tops = [0u16; TOPS];
+    let mut pos = [0u64; N];
+    let mut ends = [0u32; N];
+    let mut order = [0u16; N];
+    let mut spare = [0u16; N];
     walk::walk_lists(
         lists, lengths, first, from, end, block, bits, write, out, &mut marks, &mut tops, &mut pos,
         &mut ends, &mut order, &mut spare,
@@ -108,9 +79,9 @@ fn in_room(
     ensures out_after { out.new ≡ cond write (splice out.old 0 (bytes_of first block from end 0 (parts lengths.now lists.now))) out.old }
 {
     if lists.len() <= 256 * RECORD {
-        return in_small_room(lists, lengths, first, from, end, block, bits, write, out);
+        return sized::<256, 514, 513>(lists, lengths, first, from, end, block, bits, write, out);
     }
-    in_large_room(lists, lengths, first, from, end, block, bits, write, out)
+    sized::<2048, 4098, 4097>(lists, lengths, first, from, end, block, bits, write, out)
 }
 
 // Answers with these pieces. They are counted first only where they may have no room.

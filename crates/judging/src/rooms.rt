@@ -2,7 +2,7 @@
 ghost use Rattle.std.specs.Prelude.{◌≡◌, true, ◌+◌, ◌*◌, ◌^◌, ◌<◌, ◌≤◌, length};
 ghost use Rattle.codec.specs.All.{All};
 ghost use Rattle.slices.specs.Accepts.{Accepts};
-ghost use Rattle.slices.specs.Limits.{chunk, record_size};
+ghost use Rattle.slices.specs.Limits.{chunk, max_records, record_size};
 ghost use Rattle.joined.specs.Lists.{total, parts};
 ghost use Rattle.plans.specs.Inner.{Shifts};
 ghost use Rattle.files.specs.Inner.{Resolvable};
@@ -57,8 +57,8 @@ fn work(
     }
 }
 
-// The same for lists of at most 256 records together.
-fn small(
+// The same for lists of at most N records each, and for WINDOW pieces at a time.
+fn sized<const N: usize, const WINDOW: usize, const MARKS: usize, const TOPS: usize>(
     lists: &[u8],
     lengths: &[u64],
     first: u32,
@@ -71,43 +71,17 @@ fn small(
 ) -> Lead
     requires lengths_value { (total lengths.now ≡ length lists.now) × All Accepts (parts lengths.now lists.now) }
     requires lengths_len_bound { (length lengths.now ≤ max_lists) × (from + n ≤ length lengths.now * chunk) × Shifts block bits }
-    requires lists_len_bound { length lists.now ≤ 256 * record_size }
+    requires lists_len_bound { N < max_records → length lists.now ≤ N * record_size }
+    requires room { (N ≤ max_records) × (MARKS ≡ N + N + 2) × (TOPS ≡ N + N + 1) }
+    requires window { (N ≤ WINDOW) × (0 < WINDOW) × (WINDOW < 2 ^ 16) }
     ensures { Worked lead first from n block (parts lengths.now lists.now) plan.now result.number result.place }
 {
-    let mut marks = [0u32; 514];
-    let mut tops = [0u16; 513];
-    let mut pos = [0u64; 256];
-    let mut ends = [0u32; 256];
-    let mut order = [0u16; 256];
-    let mut spare = [0u16; 256];
-    work(
-        lists, lengths, first, from, n, block, bits, plan, lead, &mut marks, &mut tops, &mut pos,
-        &mut ends, &mut order, &mut spare,
-    )
-}
-
-// The same for all lists that are accepted, and for 4,096 pieces at a time, which is as much as the stack allows.
-fn large(
-    lists: &[u8],
-    lengths: &[u64],
-    first: u32,
-    from: u32,
-    n: u32,
-    block: u32,
-    bits: u32,
-    plan: &[u8],
-    lead: bool,
-) -> Lead
-    requires lengths_value { (total lengths.now ≡ length lists.now) × All Accepts (parts lengths.now lists.now) }
-    requires lengths_len_bound { (length lengths.now ≤ max_lists) × (from + n ≤ length lengths.now * chunk) × Shifts block bits }
-    ensures { Worked lead first from n block (parts lengths.now lists.now) plan.now result.number result.place }
-{
-    let mut marks = [0u32; 4098];
-    let mut tops = [0u16; 4097];
-    let mut pos = [0u64; 4096];
-    let mut ends = [0u32; 2048];
-    let mut order = [0u16; 4096];
-    let mut spare = [0u16; 4096];
+    let mut marks = [0u32; MARKS];
+    let mut tops = [0u16; TOPS];
+    let mut pos = [0u64; WINDOW];
+    let mut ends = [0u32; N];
+    let mut order = [0u16; WINDOW];
+    let mut spare = [0u16; WINDOW];
     work(
         lists, lengths, first, from, n, block, bits, plan, lead, &mut marks, &mut tops, &mut pos,
         &mut ends, &mut order, &mut spare,
@@ -141,7 +115,8 @@ pub(crate) fn in_room(
     ensures { Worked lead first from n block (parts lengths.now lists.now) plan.now result.number result.place }
 {
     if is_small(lists.len(), plan.len()) {
-        return small(lists, lengths, first, from, n, block, bits, plan, lead);
+        return sized::<256, 256, 514, 513>(lists, lengths, first, from, n, block, bits, plan, lead);
     }
-    large(lists, lengths, first, from, n, block, bits, plan, lead)
+    // 4,096 pieces at a time are as much as the stack allows.
+    sized::<2048, 4096, 4098, 4097>(lists, lengths, first, from, n, block, bits, plan, lead)
 }

@@ -104,7 +104,7 @@ pub fn read_plan(
     let read = cut(chunk_len, start, count);
     let block = block_size as u32;
     if n <= 32 {
-        return rooms::small(list, read.from, read.end, block, index as u32, out);
+        return rooms::sized::<32, 66, 65>(list, read.from, read.end, block, index as u32, out);
     }
     rooms::many(list, read.from, read.end, block, index as u32, out)
 }

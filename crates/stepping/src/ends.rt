@@ -39,7 +39,8 @@ pub(crate) fn end_of(list: &[u8], s: Scanned, p: u32, end: u32, block: u32) -> u
     }
     if joins::lies_behind(list, s.top, p, next, e, block) {
         if list.len() / RECORD <= 32 {
-            let found = rooms::few(list, p, end, block, bits);
+            // That room is small enough for the frame of the scan.
+            let found = rooms::sized::<32, 66, 65>(list, p, end, block, bits);
             return found.end;
         }
         return p;

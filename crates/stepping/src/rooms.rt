@@ -1,7 +1,7 @@
 // Room to resolve a list in, for a piece that joins what several records give.
-ghost use Rattle.std.specs.Prelude.{◌<◌, ◌≤◌};
+ghost use Rattle.std.specs.Prelude.{◌≡◌, ◌+◌, ◌<◌, ◌≤◌};
 ghost use Rattle.slices.specs.Accepts.{Accepts};
-ghost use Rattle.slices.specs.Limits.{chunk};
+ghost use Rattle.slices.specs.Limits.{chunk, max_records};
 ghost use Rattle.slices.specs.Record.{count};
 ghost use Rattle.plans.specs.Inner.{Shifts};
 ghost use Rattle.files.specs.Inner.{Resolvable};
@@ -45,54 +45,25 @@ fn end_in(
     }
 }
 
-// For at most 32 records: its arrays are small enough for the frame of the scan.
-pub(crate) fn few(list: &[u8], p: u32, end: u32, block: u32, bits: u32) -> Ended
-    requires accepts { Accepts list.now × (count list.now ≤ 32) }
+// In a room for at most N records.
+pub(crate) fn sized<const N: usize, const MARKS: usize, const TOPS: usize>(
+    list: &[u8],
+    p: u32,
+    end: u32,
+    block: u32,
+    bits: u32,
+) -> Ended
+    requires accepts { Accepts list.now × (count list.now ≤ N) }
     requires p_lt_end { (p < end) × (end ≤ chunk) × Shifts block bits }
+    requires room { (N ≤ max_records) × (MARKS ≡ N + N + 2) × (TOPS ≡ N + N + 1) }
     ensures { EndsAt block list.now p end result.top result.end }
 {
-    let mut marks = [0u32; 66];
-    let mut tops = [0u16; 65];
-    let mut pos = [0u64; 32];
-    let mut ends = [0u32; 32];
-    let mut order = [0u16; 32];
-    let mut spare = [0u16; 32];
-    end_in(
-        list, p, end, block, bits, &mut marks, &mut tops, &mut pos, &mut ends, &mut order,
-        &mut spare,
-    )
-}
-
-// For at most 256 records.
-fn small(list: &[u8], p: u32, end: u32, block: u32, bits: u32) -> Ended
-    requires accepts { Accepts list.now × (count list.now ≤ 256) }
-    requires p_lt_end { (p < end) × (end ≤ chunk) × Shifts block bits }
-    ensures { EndsAt block list.now p end result.top result.end }
-{
-    let mut marks = [0u32; 514];
-    let mut tops = [0u16; 513];
-    let mut pos = [0u64; 256];
-    let mut ends = [0u32; 256];
-    let mut order = [0u16; 256];
-    let mut spare = [0u16; 256];
-    end_in(
-        list, p, end, block, bits, &mut marks, &mut tops, &mut pos, &mut ends, &mut order,
-        &mut spare,
-    )
-}
-
-// For all lists that are accepted.
-fn large(list: &[u8], p: u32, end: u32, block: u32, bits: u32) -> Ended
-    requires accepts { Accepts list.now }
-    requires p_lt_end { (p < end) × (end ≤ chunk) × Shifts block bits }
-    ensures { EndsAt block list.now p end result.top result.end }
-{
-    let mut marks = [0u32; 4098];
-    let mut tops = [0u16; 4097];
-    let mut pos = [0u64; 2048];
-    let mut ends = [0u32; 2048];
-    let mut order = [0u16; 2048];
-    let mut spare = [0u16; 2048];
+    let mut marks = [0u32; MARKS];
+    let mut tops = [0u16; TOPS];
+    let mut pos = [0u64; N];
+    let mut ends = [0u32; N];
+    let mut order = [0u16; N];
+    let mut spare = [0u16; N];
     end_in(
         list, p, end, block, bits, &mut marks, &mut tops, &mut pos, &mut ends, &mut order,
         &mut spare,
@@ -106,7 +77,7 @@ pub(crate) fn end_resolved(list: &[u8], p: u32, end: u32, block: u32, bits: u32)
     ensures { EndsAt block list.now p end result.top result.end }
 {
     if list.len() / RECORD <= 256 {
-        return small(list, p, end, block, bits);
+        return sized::<256, 514, 513>(list, p, end, block, bits);
     }
-    large(list, p, end, block, bits)
+    sized::<2048, 4098, 4097>(list, p, end, block, bits)
 }

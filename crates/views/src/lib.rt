@@ -26,10 +26,10 @@ pub fn view(list: &[u8], chunk_len: u64, out: &mut [u8]) -> Result<usize, Refusa
     let n = check::check_list(list)?;
     let end = chunk_len as u32;
     if n <= 4 {
-        return rooms::few(list, end, true, out);
+        return rooms::sized::<4, 10, 9>(list, end, true, out);
     }
     if n <= 32 {
-        return rooms::small(list, end, true, out);
+        return rooms::sized::<32, 66, 65>(list, end, true, out);
     }
     rooms::many(list, end, true, out)
 }
@@ -40,10 +40,10 @@ pub fn tidy(list: &[u8], out: &mut [u8]) -> Result<usize, Refusal>
 {
     let n = check::check_list(list)?;
     if n <= 4 {
-        return rooms::few(list, CHUNK, false, out);
+        return rooms::sized::<4, 10, 9>(list, CHUNK, false, out);
     }
     if n <= 32 {
-        return rooms::small(list, CHUNK, false, out);
+        return rooms::sized::<32, 66, 65>(list, CHUNK, false, out);
     }
     rooms::many(list, CHUNK, false, out)
 }

@@ -1,6 +1,7 @@
 -- Room to resolve lists in. Assumes nothing.
-use Prim.Native.Nat.{ℕ, ◌*◌, ◌≤◌}
+use Prim.Native.Nat.{ℕ, ◌*◌, ◌<◌, ◌≤◌}
 use native.Mathlib.Omega.{arith}
+use native.Mathlib.Decide.{dec_lt}
 use mathlib.Core.Path.{◌≡◌}
 use mathlib.Core.List.{List, [], ◌∷◌}
 use lib.ListN.{length, take, drop, length-take, length-drop}
@@ -50,6 +51,12 @@ module _ (n : ℕ) (marks tops pos ends order spare : List ℕ) (r : Room n mark
   -- lists that have each as many at most
   pub room_each : max_records ≤ n → (ls : List (List ℕ)) → All Accepts ls → All (Resolvable marks tops pos ends order spare) ls
   room_each h ls a = all_map Accepts (Resolvable marks tops pos ends order spare) (λ l p. (p, room_fewer (count l) (omega (arith, p.few)))) ls a
+
+  -- lists that have together as many, where there is not room for the most
+  pub room_for : (ns bs : List ℕ) → (n < max_records → length bs ≤ n * record_size) → All Accepts (parts ns bs)
+      → All (Resolvable marks tops pos ends order spare) (parts ns bs)
+  room_for ns bs h a =
+      elim (dec_lt n max_records) [ yes f ↦ room_together ns bs (h f) a | no f ↦ room_each (omega arith) (parts ns bs) a ]
 
 -- and without their room
 pub all_accepted : (marks tops pos ends order spare : List ℕ) (ls : List (List ℕ)) → All (Resolvable marks tops pos ends order spare) ls → All Accepts ls

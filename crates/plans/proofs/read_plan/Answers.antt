@@ -42,18 +42,23 @@ overflow_cast-block c = omega (arith, ranged (goal.at.overflow_cast-block c).Els
 pub overflow_cast-index : goal.overflow_cast-index
 overflow_cast-index c = omega (arith, c.if-index-gt-MAX_INDEX.false)
 
-pub small-requires : goal.small-requires
+pub sized-requires-clause-all : goal.sized-requires-clause-all
+sized-requires-clause-all c = (check_accepts _ _ (accepted (goal.at.sized-requires-clause-all c).In_ok-n)).pass
+
+pub sized-requires-clause-list_bound : goal.sized-requires-clause-list_bound
 unfolding chunk count
-small-requires c =
-    let accepts = check_accepts _ _ (accepted (goal.at.small-requires c).In_ok-n) in
-    record { all = accepts.pass; list_bound = (omega (arith, check_counts _ _ (accepted (goal.at.small-requires c).In_ok-n), c.if-n-le32.true), c.cut-read.ensures.order, omega (arith, c.cut-read.ensures.within)); block_value = sym c.block_allowed.ensures ∙ c.if-not-block_allowed.false }
+sized-requires-clause-list_bound c =
+    (omega (arith, check_counts _ _ (accepted (goal.at.sized-requires-clause-list_bound c).In_ok-n), c.if-n-le32.true), c.cut-read.ensures.order, omega (arith, c.cut-read.ensures.within))
+
+pub sized-requires-clause-block_value : goal.sized-requires-clause-block_value
+sized-requires-clause-block_value c = sym c.block_allowed.ensures ∙ c.if-not-block_allowed.false
 
 pub returns-then-n-le32 : goal.returns-then-n-le32
 unfolding chunk
 returns-then-n-le32 c =
     answers_as _ _ _ _ _
     (read_accepted _ _ _ _ _ _ _ c.if-chunk_len.false c.if-index-gt-MAX_INDEX.false _ c.block_allowed.ensures c.if-not-block_allowed.false _ (accepted (goal.at.returns-then-n-le32 c).In_ok-n) _ _ c.cut-read.ensures)
-    c.small.ensures
+    c.sized.ensures
 
 pub overflow_cast-index-2 : goal.overflow_cast-index-2
 overflow_cast-index-2 c = omega (arith, c.if-index-gt-MAX_INDEX.false)

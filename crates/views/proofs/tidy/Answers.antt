@@ -17,27 +17,29 @@ use Rattle.views.proofs.tidy.Goals.{In_ok-n}
 accepted : (c : In_ok-n) → checked (check_outcome c.args.list.now) ≡ Ok c.in_ok-n.n
 accepted c = sym c.check_list.ensures ∙ c.in_ok-n.was
 
-pub few-requires : goal.few-requires
+pub sized-requires-clause-all : goal.sized-requires-clause-all
+sized-requires-clause-all c = (check_accepts _ _ (accepted (goal.at.sized-requires-clause-all c).In_ok-n)).pass
+
+pub sized-requires-clause-list_bound : goal.sized-requires-clause-list_bound
 unfolding chunk count
-few-requires c =
-    let h = accepted (goal.at.few-requires c).In_ok-n in
-    record { all = (check_accepts _ _ h).pass; list_bound = (omega (arith, check_counts _ _ h, c.if-n-le4.true), le_refl _) }
+sized-requires-clause-list_bound c = (omega (arith, check_counts _ _ (accepted (goal.at.sized-requires-clause-list_bound c).In_ok-n), c.if-n-le4.true), le_refl _)
 
 pub returns-then-n-le4 : goal.returns-then-n-le4
 unfolding chunk
 returns-then-n-le4 c =
-    answers_as _ _ _ _ _ (tidy_runs _ _ (accepted (goal.at.returns-then-n-le4 c).In_ok-n) _) c.few.ensures
+    answers_as _ _ _ _ _ (tidy_runs _ _ (accepted (goal.at.returns-then-n-le4 c).In_ok-n) _) c.sized.ensures
 
-pub small-requires : goal.small-requires
+pub sized-requires-then-n-le32-clause-all : goal.sized-requires-then-n-le32-clause-all
+sized-requires-then-n-le32-clause-all c = (check_accepts _ _ (accepted (goal.at.sized-requires-then-n-le32-clause-all c).In_ok-n)).pass
+
+pub sized-requires-then-n-le32-clause-list_bound : goal.sized-requires-then-n-le32-clause-list_bound
 unfolding chunk count
-small-requires c =
-    let h = accepted (goal.at.small-requires c).In_ok-n in
-    record { all = (check_accepts _ _ h).pass; list_bound = (omega (arith, check_counts _ _ h, c.if-n-le32.true), le_refl _) }
+sized-requires-then-n-le32-clause-list_bound c = (omega (arith, check_counts _ _ (accepted (goal.at.sized-requires-then-n-le32-clause-list_bound c).In_ok-n), c.if-n-le32.true), le_refl _)
 
 pub returns-then-n-le32 : goal.returns-then-n-le32
 unfolding chunk
 returns-then-n-le32 c =
-    answers_as _ _ _ _ _ (tidy_runs _ _ (accepted (goal.at.returns-then-n-le32 c).In_ok-n) _) c.small.ensures
+    answers_as _ _ _ _ _ (tidy_runs _ _ (accepted (goal.at.returns-then-n-le32 c).In_ok-n) _) c.sized-then-n-le32.ensures
 
 pub many-requires : goal.many-requires
 unfolding chunk
@@ -52,4 +54,5 @@ returns-in_err-n c =
 
 pub returns : goal.returns
 unfolding chunk
-returns c = answers_as _ _ _ _ _ (tidy_runs _ _ (accepted (goal.at.returns c).In_ok-n) _) c.many.ensures
+returns c =
+    answers_as _ _ _ _ _ (tidy_runs _ _ (accepted (goal.at.returns c).In_ok-n) _) c.many.ensures

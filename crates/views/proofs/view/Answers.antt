@@ -20,27 +20,29 @@ pub returns-then-chunk_len : goal.returns-then-chunk_len
 unfolding chunk
 returns-then-chunk_len c = answers_refusal _ _ _ _ (view_7 _ _ _ c.if-chunk_len.true) c.refusal.ensures
 
-pub few-requires : goal.few-requires
+pub sized-requires-clause-all : goal.sized-requires-clause-all
+sized-requires-clause-all c = (check_accepts _ _ (accepted (goal.at.sized-requires-clause-all c).In_ok-n)).pass
+
+pub sized-requires-clause-list_bound : goal.sized-requires-clause-list_bound
 unfolding chunk count
-few-requires c =
-    let h = accepted (goal.at.few-requires c).In_ok-n in
-    record { all = (check_accepts _ _ h).pass; list_bound = (omega (arith, check_counts _ _ h, c.if-n-le4.true), c.if-chunk_len.false) }
+sized-requires-clause-list_bound c = (omega (arith, check_counts _ _ (accepted (goal.at.sized-requires-clause-list_bound c).In_ok-n), c.if-n-le4.true), c.if-chunk_len.false)
 
 pub returns-then-n-le4 : goal.returns-then-n-le4
 unfolding chunk
 returns-then-n-le4 c =
-    answers_as _ _ _ _ _ (view_runs_lem _ _ (accepted (goal.at.returns-then-n-le4 c).In_ok-n) _ _ c.if-chunk_len.false) c.few.ensures
+    answers_as _ _ _ _ _ (view_runs_lem _ _ (accepted (goal.at.returns-then-n-le4 c).In_ok-n) _ _ c.if-chunk_len.false) c.sized.ensures
 
-pub small-requires : goal.small-requires
+pub sized-requires-then-n-le32-clause-all : goal.sized-requires-then-n-le32-clause-all
+sized-requires-then-n-le32-clause-all c = (check_accepts _ _ (accepted (goal.at.sized-requires-then-n-le32-clause-all c).In_ok-n)).pass
+
+pub sized-requires-then-n-le32-clause-list_bound : goal.sized-requires-then-n-le32-clause-list_bound
 unfolding chunk count
-small-requires c =
-    let h = accepted (goal.at.small-requires c).In_ok-n in
-    record { all = (check_accepts _ _ h).pass; list_bound = (omega (arith, check_counts _ _ h, c.if-n-le32.true), c.if-chunk_len.false) }
+sized-requires-then-n-le32-clause-list_bound c = (omega (arith, check_counts _ _ (accepted (goal.at.sized-requires-then-n-le32-clause-list_bound c).In_ok-n), c.if-n-le32.true), c.if-chunk_len.false)
 
 pub returns-then-n-le32 : goal.returns-then-n-le32
 unfolding chunk
 returns-then-n-le32 c =
-    answers_as _ _ _ _ _ (view_runs_lem _ _ (accepted (goal.at.returns-then-n-le32 c).In_ok-n) _ _ c.if-chunk_len.false) c.small.ensures
+    answers_as _ _ _ _ _ (view_runs_lem _ _ (accepted (goal.at.returns-then-n-le32 c).In_ok-n) _ _ c.if-chunk_len.false) c.sized-then-n-le32.ensures
 
 pub many-requires : goal.many-requires
 unfolding chunk

@@ -56,14 +56,17 @@ pub lies_behind-requires : goal.lies_behind-requires
 lies_behind-requires c =
     record { all = c.requires.accepts.0.pass; p_lt_e = (c.same_top_to-e.ensures.unbroken.some, shifts_some _ _ (shifts (goal.at.lies_behind-requires c).After-bits_of-bits)); on_top = top_here _ _ _ _ c.requires.scans; on_top_2 = c.top_below-next.ensures }
 
-pub few-found-requires : goal.few-found-requires
+pub sized-found-requires-clause-accepts : goal.sized-found-requires-clause-accepts
 unfolding count
-few-found-requires c =
-    record { accepts = (c.requires.accepts.0, c.if-list-le32.true); p_lt_end = (c.requires.p_lt_end.0, c.requires.p_lt_end.1, shifts (goal.at.few-found-requires c).After-bits_of-bits) }
+sized-found-requires-clause-accepts c = (c.requires.accepts.0, c.if-list-le32.true)
+
+pub sized-found-requires-clause-p_lt_end : goal.sized-found-requires-clause-p_lt_end
+sized-found-requires-clause-p_lt_end c =
+    (c.requires.p_lt_end.0, c.requires.p_lt_end.1, shifts (goal.at.sized-found-requires-clause-p_lt_end c).After-bits_of-bits)
 
 pub returns-then-list-le32 : goal.returns-then-list-le32
 returns-then-list-le32 c =
-    let l = c.few-found.ensures.leads in
+    let l = c.sized-found.ensures.leads in
     (omega (arith, l.some), (λ m. l))
 
 pub returns-then-lies_behind : goal.returns-then-lies_behind

@@ -2,6 +2,6 @@
 use Rattle.slices.specs.Record.{count}
 use Rattle.stepping.proofs.rooms.end_resolved.Goals as goal
 
-pub small-requires : goal.small-requires
+pub sized-requires-clause-accepts : goal.sized-requires-clause-accepts
 unfolding count
-small-requires c = record { accepts = (c.requires.accepts, c.if-list-le256.true); p_lt_end = c.requires.p_lt_end }
+sized-requires-clause-accepts c = (c.requires.accepts, c.if-list-le256.true)

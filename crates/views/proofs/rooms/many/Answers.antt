@@ -2,6 +2,6 @@
 use Rattle.slices.specs.Record.{count}
 use Rattle.views.proofs.rooms.many.Goals as goal
 
-pub medium-requires : goal.medium-requires
+pub sized-requires-clause-list_bound : goal.sized-requires-clause-list_bound
 unfolding count
-medium-requires c = record { all = c.requires.all; list_bound = (c.if-n-le256.true, c.requires.list_bound.1) }
+sized-requires-clause-list_bound c = (c.if-n-le256.true, c.requires.list_bound.1)
