@@ -11,7 +11,7 @@ use Rattle.plans.specs.Calls.{past_index}
 use Rattle.compaction.specs.Compaction.{plan_bytes, new_list_bytes}
 use Rattle.slices.specs.declared.Record.{Record}
 use Rattle.compaction.specs.declared.Compacted.{Compacted}
-use Rattle.outcomes.specs.declared.Refusal.{Refusal}
+use Rattle.outcomes.specs.Outcome.{Refusal}
 
 -- ---- the tests
 

@@ -19,7 +19,7 @@ ghost use Rattle.slices.specs.Record.{count, records};
 ghost use Rattle.compaction.specs.Calls.{both, delivered_both, later_rows, compact_outcome, Compacts};
 
 use blocks::block_allowed;
-use outcomes::{Refusal, refusals};
+use outcomes::{Kind, Refusal};
 use plans::rooms;
 use slices::{MAX_INDEX, RECORD, check};
 
@@ -31,7 +31,14 @@ pub struct Compacted {
 }
 
 // Answers with the pieces of the positions from `from` up to `end` of a list, each with the index of its chunk.
-fn planned(list: &[u8], from: u32, end: u32, block: u32, index: u32, plan: &mut [u8]) -> Result<usize, Refusal>
+fn planned(
+    list: &[u8],
+    from: u32,
+    end: u32,
+    block: u32,
+    index: u32,
+    plan: &mut [u8],
+) -> Result<usize, Refusal>
     requires all { All Passes (records list.now) }
     requires list_bound { (count list.now ≤ max_records) × (from ≤ end) × (end ≤ chunk) }
     requires block_value { block_allowed block ≡ true }
@@ -66,7 +73,7 @@ fn compact_first(
     let end = span.end;
     let list_bytes = new_list::stand_in_bytes(from, end, new_id) + (list.len() - cut);
     if new_list.len() < list_bytes {
-        return Err(refusals::refusal(refusals::SHORT_BUFFER));
+        return Err(Refusal::from(Kind::ShortBuffer));
     }
     let plan_bytes = planned(firsts, from, end, block, index, plan)?;
     new_list::write_list(list, cut, from, end, new_id, new_list);
@@ -91,10 +98,10 @@ fn compact_accepted(
     ensures { Compacts (first_of (later_rows (records list.now) index block k new_id (length plan.old) (length new_list.old)) (done (both index block (records list.now) k new_id))) plan.old new_list.old result plan.new new_list.new }
 {
     if ((list.len() / RECORD) as u64) < k {
-        return Err(refusals::refusal(refusals::TOO_FEW));
+        return Err(Refusal::from(Kind::TooFew));
     }
     if ids::in_use(list, new_id) {
-        return Err(refusals::refusal(refusals::ID_IN_USE));
+        return Err(Refusal::from(Kind::IdInUse));
     }
     compact_first(list, index, block, k as usize, new_id, plan, new_list)
 }
@@ -113,10 +120,10 @@ pub fn compact(
     ensures { Compacts (compact_outcome list.now index block_size k new_id (length plan.old) (length new_list.old)) plan.old new_list.old result plan.new new_list.new }
 {
     if MAX_INDEX < index {
-        return Err(refusals::refusal(refusals::WRONG_CHUNKS));
+        return Err(Refusal::from(Kind::WrongChunks));
     }
     if !block_allowed(block_size) {
-        return Err(refusals::refusal(refusals::BLOCK_SIZE));
+        return Err(Refusal::from(Kind::BlockSize));
     }
     check::check_list(list)?;
     let block = block_size as u32;

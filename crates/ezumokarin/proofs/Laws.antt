@@ -13,7 +13,7 @@ use lib.Seq.{take_all}
 use Rattle.codec.proofs.Laws.All.{rest_whole}
 use Rattle.compaction.specs.Calls.{Both, compact_answer}
 use Rattle.ezumokarin.specs.Compact.{wrote_both, plain_compacted}
-use Rattle.joined.specs.declared.ListRefusal.{ListRefusal}
+use Rattle.joined.specs.Refusals.{ListRefusal}
 use Rattle.files.specs.Calls.{wrote_many}
 use Rattle.std.specs.Prelude.{Option, Ok, Err}
 use Rattle.ezumokarin.specs.Files.{wrote_file, plain_file}

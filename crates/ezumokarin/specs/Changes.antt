@@ -1,7 +1,7 @@
 -- What is new in a list, as a struct of numbers: where the part stands in the newer list. On a refusal the others are 0. Assumes nothing.
 use Rattle.std.specs.Prelude.{ℕ, ◌-◌, Bool, true, false, Result, Ok, Err}
 use Rattle.outcomes.specs.Outcome.{Outcome, refused, done}
-use Rattle.outcomes.specs.declared.Refusal.{Refusal}
+use Rattle.outcomes.specs.Outcome.{Refusal}
 use Rattle.ezumokarin.specs.declared.Part.{Part}
 
 -- no part, with a refusal's number and place

@@ -3,7 +3,7 @@ use Rattle.std.specs.Prelude.{ℕ, List, length, Result, Ok, Err}
 use Rattle.outcomes.specs.Outcome.{Outcome, refused, done}
 use Rattle.outcomes.specs.Answers.{left_in}
 use Rattle.compaction.specs.Calls.{Both}
-use Rattle.outcomes.specs.declared.Refusal.{Refusal}
+use Rattle.outcomes.specs.Outcome.{Refusal}
 use Rattle.compaction.specs.declared.Compacted.{Compacted}
 use Rattle.ezumokarin.specs.declared.Compact.{Compact}
 

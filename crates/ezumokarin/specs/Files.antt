@@ -1,7 +1,7 @@
 -- What a plan across a file answers, as a struct of numbers, with the chunk index of the refused list. Assumes nothing.
 use Rattle.std.specs.Prelude.{ℕ, List, length, Result, Ok, Err}
 use Rattle.outcomes.specs.Outcome.{OutcomeOf, refused, done}
-use Rattle.joined.specs.declared.ListRefusal.{ListRefusal}
+use Rattle.joined.specs.Refusals.{ListRefusal}
 use Rattle.ezumokarin.specs.declared.Filed.{Filed}
 
 abbrev pub filed : ℕ → Filed

@@ -2,7 +2,7 @@
 -- verdict, and its number is 0. Assumes nothing.
 use Rattle.std.specs.Prelude.{ℕ, Result, Ok, Err}
 use Rattle.outcomes.specs.Outcome.{OutcomeOf, refused, done}
-use Rattle.joined.specs.declared.ListRefusal.{ListRefusal}
+use Rattle.joined.specs.Refusals.{ListRefusal}
 use Rattle.judging.specs.Judge.{Verdict, accepted, piece, byte}
 use Rattle.judging.specs.declared.Judged.{Judged as JudgedOf}
 use Rattle.judging.specs.declared.Judged.TheVariants as judged

@@ -3,7 +3,7 @@ use Rattle.std.specs.Prelude.{ℕ, length, Result, Ok, Err}
 use Rattle.outcomes.specs.Outcome.{Outcome, refused, done}
 use Rattle.keys.specs.Keys.{Chunk as ChunkOf}
 use Rattle.names.specs.Names.{Object as ObjectOf, Full}
-use Rattle.outcomes.specs.declared.Refusal.{Refusal}
+use Rattle.outcomes.specs.Outcome.{Refusal}
 use Rattle.names.specs.declared.ObjectName.{ObjectName}
 use Rattle.keys.specs.declared.ChunkKey.{ChunkKey}
 use Rattle.ezumokarin.specs.declared.Object.{Object}

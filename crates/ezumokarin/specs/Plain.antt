@@ -1,7 +1,7 @@
 -- Answers as structs of numbers: refusal 0 on success; a field without meaning is 0. Assumes nothing.
 use Rattle.std.specs.Prelude.{ℕ, List, length, Result, Ok, Err}
 use Rattle.outcomes.specs.Outcome.{Outcome, refused, done}
-use Rattle.outcomes.specs.declared.Refusal.{Refusal}
+use Rattle.outcomes.specs.Outcome.{Refusal}
 use Rattle.ezumokarin.specs.declared.Plain.{Plain}
 
 -- success, with its count

@@ -1,7 +1,7 @@
 -- What a search for a position answers, as a struct of numbers. On a refusal, and where no segment holds the position, the others are 0.
 -- Assumes nothing.
 use Rattle.std.specs.Prelude.{ℕ, Option, Some, None, Result, Ok, Err}
-use Rattle.outcomes.specs.declared.Refusal.{Refusal}
+use Rattle.outcomes.specs.Outcome.{Refusal}
 use Rattle.outcomes.specs.Outcome.{Outcome, refused, done}
 use Rattle.slices.specs.declared.Record.{Record}
 use Rattle.seeking.specs.declared.Found.{Found as FoundOf}

@@ -2,10 +2,10 @@
 -- Assumes nothing.
 use Rattle.std.specs.Prelude.{ℕ, Option, Some, None, Result, Ok, Err}
 use Rattle.outcomes.specs.Outcome.{OutcomeOf, Outcome, refused, done}
-use Rattle.joined.specs.declared.ListRefusal.{ListRefusal}
+use Rattle.joined.specs.Refusals.{ListRefusal}
 use Rattle.plans.specs.declared.Piece.{Piece}
 use Rattle.stepping.specs.Step.{Step, given, finished}
-use Rattle.outcomes.specs.declared.Refusal.{Refusal}
+use Rattle.outcomes.specs.Outcome.{Refusal}
 use Rattle.stepping.specs.declared.Given.{Given}
 use Rattle.ezumokarin.specs.declared.Next.{Next}
 use Rattle.ezumokarin.specs.declared.FileNext.{FileNext}

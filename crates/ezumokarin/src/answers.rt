@@ -26,8 +26,8 @@ impl From<Result<usize, Refusal>> for Plain {
                 count: n as u64,
             },
             Err(r) => Plain {
-                refusal: r.number as u64,
-                place: r.place as u64,
+                refusal: r.number() as u64,
+                place: r.place() as u64,
                 count: 0,
             },
         }
@@ -46,9 +46,9 @@ impl From<Result<usize, ListRefusal>> for Filed {
                 count: n as u64,
             },
             Err(r) => Filed {
-                refusal: r.number as u64,
-                place: r.place as u64,
-                index: r.index,
+                refusal: r.number() as u64,
+                place: r.place() as u64,
+                index: r.index(),
                 count: 0,
             },
         }
@@ -69,8 +69,8 @@ pub(crate) fn of_object(o: Result<ObjectName, Refusal>, volume: u64) -> Object
             volume,
         },
         Err(r) => Object {
-            refusal: r.number as u64,
-            place: r.place as u64,
+            refusal: r.number() as u64,
+            place: r.place() as u64,
             id: 0,
             block: 0,
             length: 0,
@@ -91,8 +91,8 @@ impl From<Result<ChunkKey, Refusal>> for Chunk {
                 index: k.index,
             },
             Err(r) => Chunk {
-                refusal: r.number as u64,
-                place: r.place as u64,
+                refusal: r.number() as u64,
+                place: r.place() as u64,
                 inode: 0,
                 index: 0,
             },
@@ -112,8 +112,8 @@ impl From<Result<Compacted, Refusal>> for Compact {
                 list: c.list as u64,
             },
             Err(r) => Compact {
-                refusal: r.number as u64,
-                place: r.place as u64,
+                refusal: r.number() as u64,
+                place: r.place() as u64,
                 plan: 0,
                 list: 0,
             },
@@ -162,7 +162,7 @@ impl From<Result<Option<seeking::Found>, Refusal>> for Found {
         match s {
             Ok(None) => no_segment(0, 0),
             Ok(Some(f)) => a_segment(f.number as u64, f.segment),
-            Err(r) => no_segment(r.number as u64, r.place as u64),
+            Err(r) => no_segment(r.number() as u64, r.place() as u64),
         }
     }
 }
@@ -180,8 +180,8 @@ pub(crate) fn of_rewritten(w: Result<bool, Refusal>, offset: u64, length: u64) -
             length,
         },
         Err(r) => Part {
-            refusal: r.number as u64,
-            place: r.place as u64,
+            refusal: r.number() as u64,
+            place: r.place() as u64,
             rewritten: 0,
             offset: 0,
             length: 0,

@@ -11,7 +11,7 @@ pub extern "C" fn ezk_added(older: &[u8], newer: &[u8]) -> Part
     ensures { result ≡ part_in (history_outcome older.now newer.now) (length older.now) (length newer.now) }
 {
     let answer = history::rewritten(older, newer);
-    let part = history::part(older, newer, answer);
+    let part = history::part(older, newer, &answer);
     let n = part.len();
     let offset = newer.len() - n;
     answers::of_rewritten(answer, offset as u64, n as u64)

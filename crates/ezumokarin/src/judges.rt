@@ -35,9 +35,9 @@ impl From<Result<judging::Judged, ListRefusal>> for Judged {
             Ok(judging::Judged::WrongPiece(k)) => with_verdict(WRONG_PIECE, k as u64),
             Ok(judging::Judged::WrongByte(i)) => with_verdict(WRONG_BYTE, i as u64),
             Err(r) => Judged {
-                refusal: r.number as u64,
-                place: r.place as u64,
-                index: r.index,
+                refusal: r.number() as u64,
+                place: r.place() as u64,
+                index: r.index(),
                 verdict: 0,
                 at: 0,
             },

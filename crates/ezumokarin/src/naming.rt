@@ -46,7 +46,7 @@ pub extern "C" fn ezk_read_full_name(name: &[u8]) -> Object
     ensures { result ≡ full_read (read_full name.now) }
 {
     let named = names::read_full_name(name);
-    let volume = names::volume_part(name, named);
+    let volume = names::volume_part(name, &named);
     let n = volume.len() as u64;
     answers::of_object(named, n)
 }

@@ -77,7 +77,7 @@ fn of_next(n: Result<Option<Given>, Refusal>, at: u64) -> Next
     match n {
         Ok(Some(g)) => a_piece(g.piece, g.next.at),
         Ok(None) => no_piece(0, 0, 1, at),
-        Err(r) => no_piece(r.number as u64, r.place as u64, 0, 0),
+        Err(r) => no_piece(r.number() as u64, r.place() as u64, 0, 0),
     }
 }
 
@@ -89,8 +89,8 @@ fn of_file_next(n: Result<Option<Given>, ListRefusal>, at: u64) -> FileNext
         Ok(Some(g)) => in_file(0, a_piece(g.piece, g.next.at)),
         Ok(None) => in_file(0, no_piece(0, 0, 1, at)),
         Err(r) => in_file(
-            r.index,
-            no_piece(r.number as u64, r.place as u64, 0, 0),
+            r.index(),
+            no_piece(r.number() as u64, r.place() as u64, 0, 0),
         ),
     }
 }

@@ -8,7 +8,7 @@ use Rattle.outcomes.specs.Answers.{lent, Replies}
 use Rattle.blocks.specs.Blocks.{block_size_bad}
 use Rattle.joined.specs.Lists.{total, parts}
 use Rattle.joined.specs.Refusals.{row_of, lists_rows}
-use Rattle.joined.specs.declared.ListRefusal.{ListRefusal}
+use Rattle.joined.specs.Refusals.{ListRefusal}
 use Rattle.plans.specs.Piece.{encode_pieces}
 use Rattle.files.specs.Limits.{max_lists}
 use Rattle.files.specs.File.{file_plan}

@@ -5,7 +5,7 @@ use Rattle.codec.specs.All.{All, Bytes}
 use Rattle.slices.specs.Limits.{chunk}
 use Rattle.outcomes.specs.Outcome.{refused, done, NoneHolds, Given}
 use Rattle.runs.specs.Runs.{Run, Valid}
-use Rattle.joined.specs.declared.ListRefusal.{ListRefusal}
+use Rattle.joined.specs.Refusals.{ListRefusal}
 use Rattle.plans.specs.Location.{Site, next_site}
 use Rattle.plans.specs.Piece.{in_chunk, in_store, pieces_in, store_runs}
 use Rattle.plans.specs.Plan.{cut_to, read_plan}

@@ -13,7 +13,7 @@ ghost use Rattle.files.specs.Calls.{wrong_chunks, file_outcome, AnswersFile};
 
 use blocks::block_allowed;
 use joined::ListRefusal;
-use outcomes::refusals;
+use outcomes::Kind;
 use slices::{CHUNK, MAX_INDEX};
 
 // The most lists that a read may span.
@@ -65,10 +65,10 @@ pub fn file_plan(
     ensures { AnswersFile (file_outcome lists.now lengths.now first_index file_len block_size start count (length out.old)) out.old result out.new }
 {
     if wrong_chunks(lists, lengths, first_index) {
-        return Err(joined::refusal(refusals::WRONG_CHUNKS));
+        return Err(ListRefusal::from(Kind::WrongChunks));
     }
     if !block_allowed(block_size) {
-        return Err(joined::refusal(refusals::BLOCK_SIZE));
+        return Err(ListRefusal::from(Kind::BlockSize));
     }
     let n = joined::check_lists(lists, lengths, first_index)?;
     let read = plans::cut(file_end(first_index, file_len, n), start, count);

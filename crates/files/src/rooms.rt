@@ -15,7 +15,7 @@ ghost use Rattle.files.specs.Inner.{bytes_of};
 use crate::walk;
 use blocks::bits_of;
 use joined::ListRefusal;
-use outcomes::refusals;
+use outcomes::Kind;
 use plans::PIECE;
 use slices::RECORD;
 
@@ -105,7 +105,7 @@ pub(crate) fn answer(
     }
     let need = in_room(lists, lengths, first, from, end, block, bits, false, out);
     if out.len() < need {
-        return Err(joined::refusal(refusals::SHORT_BUFFER));
+        return Err(ListRefusal::from(Kind::ShortBuffer));
     }
     Ok(in_room(lists, lengths, first, from, end, block, bits, true, out))
 }

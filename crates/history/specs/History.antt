@@ -3,7 +3,7 @@ use Rattle.std.specs.Prelude.{ℕ, ◌≡◌, Bool, true, false, ◌&&◌, not, 
 use Rattle.outcomes.specs.Outcome.{Outcome, refused, done, Row, first_of}
 use Rattle.outcomes.specs.Answers.{answer_of}
 use Rattle.slices.specs.Refusals.{list_rows}
-use Rattle.outcomes.specs.declared.Refusal.{Refusal}
+use Rattle.outcomes.specs.Outcome.{Refusal}
 
 -- "the older is a beginning of the newer", byte for byte
 unfoldable pub begins : List ℕ → List ℕ → Bool

@@ -19,11 +19,11 @@ pub fn rewritten(older: &[u8], newer: &[u8]) -> Result<bool, Refusal>
 }
 
 // The part of the newer list that is new, where `answer` is what `rewritten` says of the two.
-pub fn part<'a>(older: &[u8], newer: &'a [u8], answer: Result<bool, Refusal>) -> &'a [u8]
-    requires { answer ≡ told (history_outcome older.now newer.now) }
+pub fn part<'a>(older: &[u8], newer: &'a [u8], answer: &Result<bool, Refusal>) -> &'a [u8]
+    requires { answer.now ≡ told (history_outcome older.now newer.now) }
     ensures { result.now ≡ added_part older.now newer.now }
 {
-    match answer {
+    match *answer {
         Ok(false) => &newer[older.len()..],
         Ok(true) => newer,
         Err(_) => &newer[..0],
@@ -35,5 +35,5 @@ pub fn added<'a>(older: &[u8], newer: &'a [u8]) -> &'a [u8]
     ensures { result.now ≡ added_part older.now newer.now }
 {
     let answer = rewritten(older, newer);
-    part(older, newer, answer)
+    part(older, newer, &answer)
 }

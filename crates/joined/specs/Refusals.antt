@@ -1,12 +1,16 @@
 -- When one of several lists is refused: list by list, each with the rows that it has by itself, and with its index (paper 02, L9). Assumes nothing.
 use Rattle.std.specs.Prelude.{ℕ, suc, ◌+◌, ◌≡◌, List, [], ◌∷◌, ◌++◌, map, length, Result, Ok, Err}
 use Rattle.codec.specs.All.{All}
-use Rattle.outcomes.specs.Outcome.{OutcomeOf, refused, done, RowOf, Row, first_of}
+use Rattle.outcomes.specs.Outcome.{OutcomeOf, refused, done, RowOf, Refusal, Row, first_of}
 use Rattle.outcomes.specs.Answers.{answer_of}
 use Rattle.slices.specs.Accepts.{Accepts}
 use Rattle.slices.specs.Refusals.{list_rows, check_outcome}
-use Rattle.outcomes.specs.declared.Refusal.{Refusal}
-use Rattle.joined.specs.declared.ListRefusal.{ListRefusal}
+
+-- a refusal, and the index of the list that it speaks of
+pub record ListRefusal : Type 0 where
+  pub number : ℕ
+  pub place : ℕ
+  pub index : ℕ
 
 -- a refusal of the list with this index: its place is counted in that list
 abbrev pub of_list : ℕ → Refusal → ListRefusal

@@ -2,7 +2,7 @@
 use Rattle.std.specs.Prelude.{ℕ, List, length, Result, Ok, Err}
 use Rattle.outcomes.specs.Outcome.{OutcomeOf, done, first_of}
 use Rattle.outcomes.specs.Answers.{answer_of}
-use Rattle.joined.specs.declared.ListRefusal.{ListRefusal}
+use Rattle.joined.specs.Refusals.{ListRefusal}
 use Rattle.plans.specs.Plan.{cut_to}
 use Rattle.plans.specs.Location.{Site}
 use Rattle.files.specs.Calls.{lists_in, chunks_rows}

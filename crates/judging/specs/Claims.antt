@@ -4,7 +4,7 @@ use Rattle.codec.specs.All.{All, Bytes}
 use Rattle.outcomes.specs.Outcome.{refused, done, NoneHolds, Given}
 use Rattle.slices.specs.Limits.{chunk}
 use Rattle.runs.specs.Runs.{Run}
-use Rattle.joined.specs.declared.ListRefusal.{ListRefusal}
+use Rattle.joined.specs.Refusals.{ListRefusal}
 use Rattle.plans.specs.Location.{Site}
 use Rattle.plans.specs.Calls.{read_outcome}
 use Rattle.plans.specs.Piece.{piece_size, in_store, encode_pieces, pieces_in, store_runs}

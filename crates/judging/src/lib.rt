@@ -13,7 +13,7 @@ ghost use Rattle.judging.specs.Calls.{judge_outcome, judge_answer};
 
 use blocks::block_allowed;
 use joined::ListRefusal;
-use outcomes::refusals;
+use outcomes::Kind;
 
 // What is said of a plan: it is accepted; a piece, by its number from 0, is wrong in itself; a byte, by its place in the read, is missing or doubled.
 #[derive(Clone, Copy)]
@@ -38,10 +38,10 @@ pub fn judge(
     ensures { result ≡ judge_answer (judge_outcome lists.now lengths.now first_index file_len block_size start count plan.now) }
 {
     if files::wrong_chunks(lists, lengths, first_index) {
-        return Err(joined::refusal(refusals::WRONG_CHUNKS));
+        return Err(ListRefusal::from(Kind::WrongChunks));
     }
     if !block_allowed(block_size) {
-        return Err(joined::refusal(refusals::BLOCK_SIZE));
+        return Err(ListRefusal::from(Kind::BlockSize));
     }
     let n = joined::check_lists(lists, lengths, first_index)?;
     let read = plans::cut(files::file_end(first_index, file_len, n), start, count);

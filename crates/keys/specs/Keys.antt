@@ -14,7 +14,7 @@ use Rattle.texts.specs.Words.{underscore}
 use Rattle.texts.specs.Parts.{Part, word, within, scan}
 use Rattle.texts.specs.Calls.{write_text, reading}
 use Rattle.keys.specs.declared.ChunkKey.{ChunkKey}
-use Rattle.outcomes.specs.declared.Refusal.{Refusal}
+use Rattle.outcomes.specs.Outcome.{Refusal}
 
 -- a chunk of a file
 pub record Chunk : Type 0 where

@@ -14,7 +14,7 @@ ghost use Rattle.keys.specs.Keys.{redis_key, read_redis, write_redis, tkv_key, t
 
 use codec::scan::Step;
 use codec::{decimal, fixed, little, pairs, width};
-use outcomes::{Refusal, refusals};
+use outcomes::{Kind, Refusal};
 use slices::MAX_INDEX;
 use texts::{MAX_NUMBER, scan, text};
 
@@ -41,12 +41,12 @@ pub fn write_redis_key(inode: u64, index: u64, out: &mut [u8]) -> Result<usize, 
     ensures { Answers (write_redis inode index (length out.old)) out.old result out.new }
 {
     if MAX_INDEX < index {
-        return Err(refusals::refusal(refusals::NOT_OF_FORM));
+        return Err(Refusal::from(Kind::NotOfForm));
     }
     let i = width::digits(inode);
     let j = width::digits(index);
     if out.len() < limits::REDIS_WORDS + (i + j) {
-        return Err(refusals::refusal(refusals::SHORT_BUFFER));
+        return Err(Refusal::from(Kind::ShortBuffer));
     }
     Ok(put_redis(out, inode, index, i, j))
 }
@@ -65,7 +65,7 @@ pub fn read_redis_key(key: &[u8]) -> Result<ChunkKey, Refusal>
             inode: scan::value_of(inode),
             index: scan::value_of(index),
         }),
-        Step::Stop(_) => Err(refusals::refusal(refusals::NOT_OF_FORM)),
+        Step::Stop(_) => Err(Refusal::from(Kind::NotOfForm)),
     }
 }
 
@@ -85,7 +85,7 @@ pub fn write_tkv_key(inode: u64, index: u64, out: &mut [u8]) -> Result<usize, Re
     ensures { Answers (write_tkv inode index (length out.old)) out.old result out.new }
 {
     if MAX_INDEX < index {
-        return Err(refusals::refusal(refusals::NOT_OF_FORM));
+        return Err(Refusal::from(Kind::NotOfForm));
     }
     let mut line = [0u8; limits::TKV];
     put_tkv(&mut line, inode, index as u32);
@@ -110,7 +110,7 @@ pub fn read_tkv_key(key: &[u8]) -> Result<ChunkKey, Refusal>
     ensures { result ≡ chunk_answer (read_tkv key.now) }
 {
     if !tkv_shape(key) {
-        return Err(refusals::refusal(refusals::NOT_OF_FORM));
+        return Err(Refusal::from(Kind::NotOfForm));
     }
     Ok(ChunkKey {
         inode: little::read_le64(key, 1),

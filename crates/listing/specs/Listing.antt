@@ -8,7 +8,7 @@ use Rattle.outcomes.specs.Numbers.{too_many}
 use Rattle.outcomes.specs.Outcome.{Outcome, refused, done, refusal}
 use Rattle.views.specs.Calls.{view_outcome}
 use Rattle.slices.specs.declared.Record.{Record}
-use Rattle.outcomes.specs.declared.Refusal.{Refusal}
+use Rattle.outcomes.specs.Outcome.{Refusal}
 
 -- the most bytes of a file, and of the view's buffer
 abbrev pub file_limit : ℕ

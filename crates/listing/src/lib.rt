@@ -9,7 +9,7 @@ ghost use Rattle.listing.specs.Listing.{file_limit};
 ghost use Rattle.listing.specs.Calls.{text_outcome};
 
 use codec::decimal::DIGITS;
-use outcomes::{Refusal, refusals};
+use outcomes::{Kind, Refusal};
 use slices::{CHUNK, RECORD};
 
 // The most bytes of a file, and of the view's buffer.
@@ -30,10 +30,10 @@ pub fn text(list: &[u8], longer: bool, out: &mut [u8]) -> Result<usize, Refusal>
     ensures { Answers (text_outcome longer list.now (length out.old)) out.old result out.new }
 {
     if out.len() < TEXT {
-        return Err(refusals::refusal(refusals::SHORT_BUFFER));
+        return Err(Refusal::from(Kind::ShortBuffer));
     }
     if longer {
-        return Ok(lines::put_refused(out, refusals::refusal(refusals::TOO_MANY)));
+        return Ok(lines::put_refused(out, Refusal::from(Kind::TooMany)));
     }
     let mut view = blank();
     match views::view(list, CHUNK as u64, &mut view) {

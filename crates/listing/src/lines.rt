@@ -63,7 +63,7 @@ pub(crate) fn put_refused(out: &mut [u8], r: Refusal) -> usize
     ensures { (result ≡ length (refused_line r)) × (out.new ≡ splice out.old 0 (refused_line r)) }
 {
     let a = put::put(out, 0, b"refused ");
-    let b = decimal::put_decimal(out, a, r.number as u64);
+    let b = decimal::put_decimal(out, a, r.number() as u64);
     let c = put::put(out, b, b" at ");
-    put_field(out, c, r.place as u64, b'\n')
+    put_field(out, c, r.place() as u64, b'\n')
 }

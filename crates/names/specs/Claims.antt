@@ -2,7 +2,7 @@
 -- proves it. Assumes nothing.
 use Rattle.std.specs.Prelude.{ℕ, ◌/◌, ◌≡◌, true, List, [], ◌++◌, length, take}
 use Rattle.outcomes.specs.Outcome.{refused, done}
-use Rattle.outcomes.specs.declared.Refusal.{Refusal}
+use Rattle.outcomes.specs.Outcome.{Refusal}
 use Rattle.texts.specs.Words.{slash}
 use Rattle.texts.specs.Inverse.{Inverse, Any}
 use Rattle.names.specs.Volume.{volume_allowed}

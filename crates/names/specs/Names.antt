@@ -11,7 +11,7 @@ use Rattle.texts.specs.Parts.{Part, word, number, within, latest, Scan, scan, on
 use Rattle.texts.specs.Calls.{write_text, reading}
 use Rattle.names.specs.Volume.{volume_allowed, volume_run, volume_at}
 use Rattle.names.specs.declared.ObjectName.{ObjectName}
-use Rattle.outcomes.specs.declared.Refusal.{Refusal}
+use Rattle.outcomes.specs.Outcome.{Refusal}
 
 -- an object: a block of a slice
 pub record Object : Type 0 where

@@ -11,7 +11,7 @@ ghost use Rattle.names.specs.Names.{name_form, object_of, object_answer, object_
 use crate::{ObjectName, limits, slice};
 use codec::decimal;
 use codec::scan::Step;
-use outcomes::{Refusal, refusals};
+use outcomes::{Kind, Refusal};
 use texts::{MAX_NUMBER, scan, text};
 
 // The largest number up to most whose thousandth part is at most q.
@@ -54,7 +54,7 @@ pub(crate) fn read(text: &[u8], prior: Step) -> Result<ObjectName, Refusal>
             block: scan::value_of(block),
             length: scan::value_of(size),
         }),
-        Step::Stop(_) => Err(refusals::refusal(refusals::NOT_OF_FORM)),
+        Step::Stop(_) => Err(Refusal::from(Kind::NotOfForm)),
     }
 }
 

@@ -13,7 +13,7 @@ ghost use Rattle.names.specs.Inner.{Widths};
 ghost use Rattle.names.specs.Names.{read_object, object_answer, write_object, read_full, full_answer, volume_part, write_full, full_name};
 
 use codec::{pairs, width};
-use outcomes::{Refusal, refusals};
+use outcomes::{Kind, Refusal};
 use texts::{scan, text};
 
 // What an object name names: a block of a slice.
@@ -29,14 +29,14 @@ pub fn write_object_name(id: u64, block: u64, size: u64, out: &mut [u8]) -> Resu
     ensures { Answers (write_object id block size (length out.old)) out.old result out.new }
 {
     if !block::allowed(id, block, size) {
-        return Err(refusals::refusal(refusals::NOT_OF_FORM));
+        return Err(Refusal::from(Kind::NotOfForm));
     }
     let i = width::digits(id);
     let b = width::digits(block);
     let s = width::digits(size);
     let n = block::length(i, b, s);
     if out.len() < n {
-        return Err(refusals::refusal(refusals::SHORT_BUFFER));
+        return Err(Refusal::from(Kind::ShortBuffer));
     }
     let table = pairs::table();
     Ok(block::put(out, 0, id, block, size, i, b, s, &table))
@@ -70,21 +70,27 @@ fn put_full(
 }
 
 // Writes the full name of an object: its volume's name, a slash and its short name.
-pub fn write_full_name(volume: &[u8], id: u64, block: u64, size: u64, out: &mut [u8]) -> Result<usize, Refusal>
+pub fn write_full_name(
+    volume: &[u8],
+    id: u64,
+    block: u64,
+    size: u64,
+    out: &mut [u8],
+) -> Result<usize, Refusal>
     ensures { Answers (write_full volume.now id block size (length out.old)) out.old result out.new }
 {
     if !volume::allowed(volume) {
-        return Err(refusals::refusal(refusals::NOT_OF_FORM));
+        return Err(Refusal::from(Kind::NotOfForm));
     }
     if !block::allowed(id, block, size) {
-        return Err(refusals::refusal(refusals::NOT_OF_FORM));
+        return Err(Refusal::from(Kind::NotOfForm));
     }
     let i = width::digits(id);
     let b = width::digits(block);
     let s = width::digits(size);
     let n = block::length(i, b, s);
     if out.len() < volume.len() + (1 + n) {
-        return Err(refusals::refusal(refusals::SHORT_BUFFER));
+        return Err(Refusal::from(Kind::ShortBuffer));
     }
     Ok(put_full(out, volume, id, block, size, i, b, s))
 }
@@ -99,8 +105,8 @@ pub fn read_full_name(name: &[u8]) -> Result<ObjectName, Refusal>
 }
 
 // The volume name of a full name that was read as `named`, as a part of it; an empty part where the name is refused.
-pub fn volume_part(name: &[u8], named: Result<ObjectName, Refusal>) -> &[u8]
-    requires { named ≡ full_answer (read_full name.now) }
+pub fn volume_part<'a>(name: &'a [u8], named: &Result<ObjectName, Refusal>) -> &'a [u8]
+    requires { named.now ≡ full_answer (read_full name.now) }
     ensures { result.now ≡ volume_part (read_full name.now) }
 {
     if let Err(_) = named {
@@ -115,5 +121,5 @@ pub fn volume_of(name: &[u8]) -> &[u8]
     ensures { result.now ≡ volume_part (read_full name.now) }
 {
     let named = read_full_name(name);
-    volume_part(name, named)
+    volume_part(name, &named)
 }

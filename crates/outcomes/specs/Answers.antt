@@ -1,6 +1,6 @@
 -- What a call returns, and leaves in the buffers that it was lent: in none, in one or in several. Assumes nothing.
 use Rattle.std.specs.Prelude.{ℕ, ◌≡◌, List, [], ◌∷◌, length, take, Result, Ok, Err}
-use Rattle.outcomes.specs.declared.Refusal.{Refusal}
+use Rattle.outcomes.specs.Outcome.{Refusal}
 use Rattle.codec.specs.All.{All}
 use Rattle.codec.specs.Splice.{splice}
 use Rattle.outcomes.specs.Outcome.{OutcomeOf, refused, done, Outcome}

@@ -4,7 +4,6 @@
 use Rattle.std.specs.Prelude.{ℕ, ◌≡◌, Bool, true, false, cond, List, [], ◌∷◌, ◌++◌, ltb, length}
 use Rattle.codec.specs.All.{All}
 use Rattle.outcomes.specs.Numbers.{short_buffer}
-use Rattle.outcomes.specs.declared.Refusal.{Refusal}
 
 -- a refusal, or what the call has done
 pub data OutcomeOf (R A : Type 0) : Type 0 where
@@ -33,6 +32,10 @@ pub record Given {R : Type 0} (rows : List (RowOf R)) (r : R) : Type 0 where
   pub none : NoneHolds before
 
 -- ---- refusals with a number and a place
+
+pub record Refusal : Type 0 where
+  pub number : ℕ
+  pub place : ℕ
 
 abbrev pub Outcome : Type 0 → Type 0
 Outcome A = OutcomeOf Refusal A

@@ -15,7 +15,7 @@ ghost use Rattle.plans.specs.Calls.{read_outcome};
 ghost use Rattle.plans.specs.Inner.{Cut};
 
 use blocks::block_allowed;
-use outcomes::{Refusal, refusals};
+use outcomes::{Kind, Refusal};
 use slices::{CHUNK, MAX_INDEX, check};
 
 // The bytes of a piece.
@@ -92,13 +92,13 @@ pub fn read_plan(
     ensures { Answers (read_outcome list.now index chunk_len block_size start count (length out.old)) out.old result out.new }
 {
     if (CHUNK as u64) < chunk_len {
-        return Err(refusals::refusal(refusals::CHUNK_TOO_LONG));
+        return Err(Refusal::from(Kind::ChunkTooLong));
     }
     if MAX_INDEX < index {
-        return Err(refusals::refusal(refusals::WRONG_CHUNKS));
+        return Err(Refusal::from(Kind::WrongChunks));
     }
     if !block_allowed(block_size) {
-        return Err(refusals::refusal(refusals::BLOCK_SIZE));
+        return Err(Refusal::from(Kind::BlockSize));
     }
     let n = check::check_list(list)?;
     let read = cut(chunk_len, start, count);

@@ -11,7 +11,7 @@ ghost use Rattle.plans.specs.Piece.{piece_size, chunk_bytes};
 ghost use Rattle.plans.specs.Plan.{pieces};
 
 use crate::{PIECE, bytes, reach, shifts};
-use outcomes::{Refusal, refusals};
+use outcomes::{Kind, Refusal};
 use resolve::segments;
 
 // Writes the pieces of the positions from `from` up to `end` into a buffer that has room for them, from `start` on, or only counts their bytes;
@@ -98,7 +98,7 @@ pub(crate) fn answer(
         list, marks, tops, m, from, end, block, bits, front, false, out, 0,
     );
     if out.len() < need {
-        return Err(refusals::refusal(refusals::SHORT_BUFFER));
+        return Err(Refusal::from(Kind::ShortBuffer));
     }
     Ok(walk_pieces(
         list, marks, tops, m, from, end, block, bits, front, true, out, 0,

@@ -1,6 +1,6 @@
 -- Inner: what the steps of a load leave. It serves the contracts of inner functions alone. Assumes nothing.
 use Rattle.std.specs.Prelude.{ℕ, ◌*◌, ◌≤◌, ◌≡◌, List, ◌++◌, drop, Result, Ok, Err}
-use Rattle.outcomes.specs.declared.Refusal.{Refusal}
+use Rattle.outcomes.specs.Outcome.{Refusal}
 use Rattle.outcomes.specs.Outcome.{Outcome}
 use Rattle.outcomes.specs.Answers.{left_in}
 use Rattle.slices.specs.Limits.{record_size}

@@ -1,6 +1,6 @@
 -- Loading a list's view into a lent row of segments (paper 02, L11): its refusals are the view's, and a row too short is 12 too. Assumes nothing.
 use Rattle.std.specs.Prelude.{ℕ, ◌≡◌, Bool, List, [], ◌∷◌, ◌++◌, ltb, length, drop, Result, Ok, Err}
-use Rattle.outcomes.specs.declared.Refusal.{Refusal}
+use Rattle.outcomes.specs.Outcome.{Refusal}
 use Rattle.outcomes.specs.Numbers as number
 use Rattle.outcomes.specs.Outcome.{Outcome, refused, done, Row, row, first_of}
 use Rattle.outcomes.specs.Answers.{answer_of, left_in}

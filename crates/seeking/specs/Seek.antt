@@ -9,7 +9,7 @@ use Rattle.slices.specs.Record.{count, record_at}
 use Rattle.slices.specs.Refusals.{not_whole}
 use Rattle.slices.specs.declared.Record.{Record}
 use Rattle.seeking.specs.declared.Found.{Found}
-use Rattle.outcomes.specs.declared.Refusal.{Refusal}
+use Rattle.outcomes.specs.Outcome.{Refusal}
 
 -- ---- by halving
 

@@ -10,7 +10,7 @@ ghost use Rattle.std.specs.Prelude.{◌≡◌, length};
 ghost use Rattle.seeking.specs.Seek.{seek_row, seek_view, sought};
 ghost use Rattle.seeking.specs.Load.{load_outcome, Loads};
 
-use outcomes::{Refusal, refusals};
+use outcomes::{Kind, Refusal};
 use slices::{RECORD, Record};
 
 // The segment that holds a position, with its number in the row.
@@ -25,7 +25,7 @@ pub fn find_in(view: &[u8], segments: u64, position: u64) -> Result<Option<Found
     ensures { result ≡ sought (seek_view view.now segments position) }
 {
     if view.len() % RECORD != 0 {
-        return Err(refusals::refusal(refusals::NOT_WHOLE));
+        return Err(Refusal::from(Kind::NotWhole));
     }
     let n = half::fewer(segments, view.len() / RECORD);
     Ok(bytes::seek(view, n, position))
@@ -44,7 +44,12 @@ pub fn find(row: &[Record], number: usize, position: u64) -> Option<Found>
 }
 
 // Loads a list's view into the front of a lent row: how many segments it has. `bytes` is lent for the view's bytes.
-pub fn load(list: &[u8], chunk_len: u64, bytes: &mut [u8], row: &mut [Record]) -> Result<usize, Refusal>
+pub fn load(
+    list: &[u8],
+    chunk_len: u64,
+    bytes: &mut [u8],
+    row: &mut [Record],
+) -> Result<usize, Refusal>
     ensures { Loads (load_outcome list.now chunk_len (length bytes.old) (length row.old)) bytes.old row.old result bytes.new row.new }
 {
     let n = within::view_within(list, chunk_len, row.len(), bytes)?;

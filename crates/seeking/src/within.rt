@@ -17,7 +17,12 @@ fn room_for(bytes: usize, rows: usize) -> usize
 }
 
 // Writes the view's bytes, if the buffer and a row of so many elements have room for the view.
-pub(crate) fn view_within(list: &[u8], chunk_len: u64, rows: usize, bytes: &mut [u8]) -> Result<usize, Refusal>
+pub(crate) fn view_within(
+    list: &[u8],
+    chunk_len: u64,
+    rows: usize,
+    bytes: &mut [u8],
+) -> Result<usize, Refusal>
     ensures { Within (load_outcome list.now chunk_len (length bytes.old) rows) rows bytes.old result bytes.new }
 {
     let room = room_for(bytes.len(), rows);

@@ -1,6 +1,6 @@
 -- When a list is refused: the rows 1 to 6 of paper 01's table, in its order, then 16 of paper 02 (L8); and when a chunk length is, 7. Assumes nothing.
 use Rattle.std.specs.Prelude.{ℕ, suc, ◌+◌, ◌%◌, Bool, false, ◌&&◌, ◌||◌, not, List, [], ◌∷◌, ◌++◌, ltb, eqb, length, Result, Ok, Err}
-use Rattle.outcomes.specs.declared.Refusal.{Refusal}
+use Rattle.outcomes.specs.Outcome.{Refusal}
 use Rattle.slices.specs.Limits.{record_size, chunk, max_records}
 use Rattle.slices.specs.Record.{count, records}
 use Rattle.outcomes.specs.Numbers as number

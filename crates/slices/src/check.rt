@@ -1,54 +1,51 @@
 // Which lists are refused.
 ghost use Rattle.std.specs.Prelude.{◌≡◌, ◌<◌, ◌≤◌};
+ghost use Rattle.outcomes.specs.Kinds.{number_of, number_or_0};
 ghost use Rattle.slices.specs.Limits.{max_records};
 ghost use Rattle.slices.specs.Record.{count};
 ghost use Rattle.slices.specs.Refusals.{check_outcome, checked};
 ghost use Rattle.slices.specs.Inner.{fault, number_at, few, fell, Risen, Passed, Sound, FirstRefused};
 
 use crate::{CHUNK, RECORD, RECORDS, Record, records, sizes, tree};
-use outcomes::{Refusal, refusals};
+use outcomes::{Kind, Refusal};
 
 // In a list of up to so many records, each is compared with all before it.
 const FEW: usize = 16;
 
-// The number with which a record is refused, or 0.
-fn check_record(r: Record) -> u8
-    ensures { result ≡ fault r }
+// Why a record by itself is refused, if it is.
+fn check_record(r: Record) -> Option<Kind>
+    ensures { number_or_0 result ≡ fault r }
 {
     if (CHUNK as u64) < r.pos as u64 + r.len as u64 {
-        return refusals::PAST_CHUNK;
+        return Some(Kind::PastChunk);
     }
     if CHUNK < r.size {
-        return refusals::TOO_LARGE;
+        return Some(Kind::TooLarge);
     }
     if r.id == 0 {
         if r.off != 0 {
-            return refusals::ZEROS_WITH_SLICE;
+            return Some(Kind::ZerosWithSlice);
         }
         if r.size == 0 {
-            return 0;
+            return None;
         }
         if r.size != r.len {
-            return refusals::ZEROS_WITH_SLICE;
+            return Some(Kind::ZerosWithSlice);
         }
-        return 0;
+        return None;
     }
     if (r.size as u64) < r.off as u64 + r.len as u64 {
-        return refusals::PAST_SLICE;
+        return Some(Kind::PastSlice);
     }
-    0
+    None
 }
 
-// The number with which the record at a place is refused: 16 where the record alone is not.
-fn number_at(list: &[u8], place: usize) -> u8
+// Why the record at a place is refused: by itself, or else as one of two sizes.
+fn kind_at(list: &[u8], place: usize) -> Kind
     requires { place < count list.now }
-    ensures { result ≡ number_at list.now place }
+    ensures { number_of result ≡ number_at list.now place }
 {
-    let number = check_record(records::read_record(list, place));
-    if number == 0 {
-        return refusals::TWO_SIZES;
-    }
-    number
+    check_record(records::read_record(list, place)).unwrap_or(Kind::TwoSizes)
 }
 
 // A number of first records that are sound: each passes, and agrees with all before it. It goes over all pairs, so only few records are allowed.
@@ -58,7 +55,7 @@ fn sound(list: &[u8]) -> usize
 {
     let n = list.len() / RECORD;
     for i in 0..n {
-        if check_record(records::read_record(list, i)) != 0 || !sizes::agrees(list, i) {
+        if check_record(records::read_record(list, i)).is_some() || !sizes::agrees(list, i) {
             return i;
         }
     }
@@ -77,7 +74,7 @@ fn first_refused(list: &[u8], from: usize, highest: u64) -> usize
     let mut last = highest;
     for i in from..n {
         let r = records::read_record(list, i);
-        if check_record(r) != 0 {
+        if check_record(r).is_some() {
             return i;
         }
         last = sizes::risen(last, r.id);
@@ -109,16 +106,15 @@ pub fn check_list(list: &[u8]) -> Result<usize, Refusal>
     ensures { result ≡ checked (check_outcome list.now) }
 {
     if list.len() % RECORD != 0 {
-        return Err(refusals::refusal(refusals::NOT_WHOLE));
+        return Err(Refusal::from(Kind::NotWhole));
     }
     let n = list.len() / RECORD;
     if RECORDS < n {
-        return Err(refusals::refusal(refusals::TOO_MANY));
+        return Err(Refusal::from(Kind::TooMany));
     }
     let place = refused_at(list);
     if place == n {
         return Ok(n);
     }
-    let number = number_at(list, place);
-    Err(Refusal { number, place })
+    Err(Refusal::at(kind_at(list, place), place))
 }

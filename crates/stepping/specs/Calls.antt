@@ -3,7 +3,7 @@ use Rattle.std.specs.Prelude.{ℕ, List, map, length, Option, Some, None, Result
 use Rattle.slices.specs.Record.{records}
 use Rattle.outcomes.specs.Outcome.{OutcomeOf, Outcome, done, first_of}
 use Rattle.outcomes.specs.Answers.{answer_of}
-use Rattle.joined.specs.declared.ListRefusal.{ListRefusal}
+use Rattle.joined.specs.Refusals.{ListRefusal}
 use Rattle.plans.specs.Calls.{chunk_rows}
 use Rattle.plans.specs.Piece.{in_chunk}
 use Rattle.plans.specs.Plan.{cut_to, read_plan}
@@ -11,7 +11,7 @@ use Rattle.files.specs.Calls.{lists_in, chunks_rows}
 use Rattle.files.specs.File.{site_from, file_end, file_plan}
 use Rattle.stepping.specs.Step.{Step, given, finished, piece_in, next_step, chunk_site}
 use Rattle.plans.specs.declared.Piece.{Piece}
-use Rattle.outcomes.specs.declared.Refusal.{Refusal}
+use Rattle.outcomes.specs.Outcome.{Refusal}
 use Rattle.stepping.specs.declared.Given.{Given}
 
 -- ---- a read of one chunk

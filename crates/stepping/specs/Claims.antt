@@ -3,8 +3,8 @@
 use Rattle.std.specs.Prelude.{ℕ, ◌+◌, ◌-◌, ◌<◌, ◌≤◌, ◌≡◌, ◌↔◌, length}
 use mathlib.Core.List.{List, [], ◌∷◌, ◌++◌, flat_map}
 use Rattle.outcomes.specs.Outcome.{OutcomeOf, refused, done, NoneHolds, Given}
-use Rattle.outcomes.specs.declared.Refusal.{Refusal}
-use Rattle.joined.specs.declared.ListRefusal.{ListRefusal}
+use Rattle.outcomes.specs.Outcome.{Refusal}
+use Rattle.joined.specs.Refusals.{ListRefusal}
 use Rattle.plans.specs.Calls.{chunk_rows, plan_bytes, read_outcome}
 use Rattle.plans.specs.Piece.{encode_piece}
 use Rattle.plans.specs.Plan.{cut_to}

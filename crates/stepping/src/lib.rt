@@ -12,7 +12,7 @@ ghost use Rattle.stepping.specs.Calls.{next_outcome, next_answer, next_file_outc
 
 use blocks::block_allowed;
 use joined::ListRefusal;
-use outcomes::{Refusal, refusals};
+use outcomes::{Kind, Refusal};
 use plans::{Piece, Span};
 use slices::{CHUNK, MAX_INDEX, check};
 
@@ -63,13 +63,13 @@ impl Place {
     {
         let at = self.at;
         if (CHUNK as u64) < chunk_len {
-            return Err(refusals::refusal(refusals::CHUNK_TOO_LONG));
+            return Err(Refusal::from(Kind::ChunkTooLong));
         }
         if MAX_INDEX < index {
-            return Err(refusals::refusal(refusals::WRONG_CHUNKS));
+            return Err(Refusal::from(Kind::WrongChunks));
         }
         if !block_allowed(block_size) {
-            return Err(refusals::refusal(refusals::BLOCK_SIZE));
+            return Err(Refusal::from(Kind::BlockSize));
         }
         check::check_list(list)?;
         let read = plans::cut(chunk_len, start, count);
@@ -106,10 +106,10 @@ impl Place {
     {
         let at = self.at;
         if files::wrong_chunks(lists, lengths, first_index) {
-            return Err(joined::refusal(refusals::WRONG_CHUNKS));
+            return Err(ListRefusal::from(Kind::WrongChunks));
         }
         if !block_allowed(block_size) {
-            return Err(joined::refusal(refusals::BLOCK_SIZE));
+            return Err(ListRefusal::from(Kind::BlockSize));
         }
         let n = joined::check_lists(lists, lengths, first_index)?;
         let read = plans::cut(files::file_end(first_index, file_len, n), start, count);

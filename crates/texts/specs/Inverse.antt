@@ -2,7 +2,7 @@
 use Rattle.std.specs.Prelude.{ℕ, ◌≡◌, Bool, true, List}
 use Rattle.outcomes.specs.Numbers.{not_of_form}
 use Rattle.outcomes.specs.Outcome.{Outcome, refused, done, refusal}
-use Rattle.outcomes.specs.declared.Refusal.{Refusal}
+use Rattle.outcomes.specs.Outcome.{Refusal}
 
 abbrev pub Any : List ℕ → Type 0
 Any t = Unit {0}

@@ -10,7 +10,7 @@ ghost use Rattle.std.specs.Prelude.{length};
 ghost use Rattle.outcomes.specs.Answers.{Answers};
 ghost use Rattle.views.specs.Calls.{view_outcome, tidy_outcome};
 
-use outcomes::{Refusal, refusals};
+use outcomes::{Kind, Refusal};
 use slices::{CHUNK, check};
 
 // The most records that a tidied list may have.
@@ -21,7 +21,7 @@ pub fn view(list: &[u8], chunk_len: u64, out: &mut [u8]) -> Result<usize, Refusa
     ensures { Answers (view_outcome list.now chunk_len (length out.old)) out.old result out.new }
 {
     if (CHUNK as u64) < chunk_len {
-        return Err(refusals::refusal(refusals::CHUNK_TOO_LONG));
+        return Err(Refusal::from(Kind::ChunkTooLong));
     }
     let n = check::check_list(list)?;
     let end = chunk_len as u32;

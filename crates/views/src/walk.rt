@@ -8,7 +8,7 @@ ghost use Rattle.slices.specs.Record.{records, encode_all};
 ghost use Rattle.views.specs.Inner.{shown, view_from, too_long, Roomy, runs_outcome};
 
 use crate::{TIDIED, bytes, maximal};
-use outcomes::{Refusal, refusals};
+use outcomes::{Kind, Refusal};
 use slices::RECORD;
 
 // Whether a call refuses so many records: only a tidied list has a limit.
@@ -96,10 +96,10 @@ pub(crate) fn answer(
     }
     let need = walk_runs(list, marks, tops, m, end, all, false, out);
     if too_long(all, need / RECORD) {
-        return Err(refusals::refusal(refusals::TIDIED_TOO_LONG));
+        return Err(Refusal::from(Kind::TidiedTooLong));
     }
     if out.len() < need {
-        return Err(refusals::refusal(refusals::SHORT_BUFFER));
+        return Err(Refusal::from(Kind::ShortBuffer));
     }
     Ok(walk_runs(list, marks, tops, m, end, all, true, out))
 }

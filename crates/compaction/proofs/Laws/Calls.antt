@@ -19,7 +19,7 @@ use Rattle.slices.proofs.Laws.Refusals.{list_stops, list_lets}
 use Rattle.blocks.specs.Blocks.{block_allowed, block_size_bad}
 use Rattle.plans.specs.Calls.{past_index}
 use Rattle.compaction.specs.Calls.{too_few, id_in_use, Both, both, delivered_both, later_rows, compact_rows, compact_outcome}
-use Rattle.outcomes.specs.declared.Refusal.{Refusal}
+use Rattle.outcomes.specs.Outcome.{Refusal}
 use Rattle.std.specs.Prelude.{Ok, Err}
 
 -- ---- the outcome

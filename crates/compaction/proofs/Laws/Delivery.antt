@@ -14,7 +14,7 @@ use Rattle.outcomes.specs.Numbers as number
 use Rattle.outcomes.specs.Answers.{Answers}
 use Rattle.outcomes.specs.Outcome.{refused, refusal, delivered}
 use Rattle.std.specs.Prelude.{Result, Ok, Err}
-use Rattle.outcomes.specs.declared.Refusal.{Refusal}
+use Rattle.outcomes.specs.Outcome.{Refusal}
 use Rattle.slices.specs.Passes.{Passes}
 use Rattle.slices.specs.Record.{encode_all, count, records}
 use Rattle.plans.specs.Piece.{chunk_bytes}

@@ -23,7 +23,7 @@ ranged c = block_range _ (sym c.block_allowed.ensures ∙ c.if-not-block_allowed
 
 pub returns-then-index-gt-MAX_INDEX : goal.returns-then-index-gt-MAX_INDEX
 returns-then-index-gt-MAX_INDEX c =
-    replies_refused _ _ _ _ (compact_21 _ _ _ _ _ _ _ c.if-index-gt-MAX_INDEX.true) c.refusal.ensures (refl, (refl, tt))
+    replies_refused _ _ _ _ (compact_21 _ _ _ _ _ _ _ c.if-index-gt-MAX_INDEX.true) c.from.ensures (refl, (refl, tt))
 
 pub overflow_cast-index : goal.overflow_cast-index
 overflow_cast-index c = omega (arith, c.if-index-gt-MAX_INDEX.false)
@@ -49,4 +49,4 @@ returns c =
 
 pub returns-then-not-block_allowed : goal.returns-then-not-block_allowed
 returns-then-not-block_allowed c =
-    replies_refused _ _ _ _ (compact_8 _ _ _ _ _ _ _ c.if-index-gt-MAX_INDEX.false _ c.block_allowed.ensures c.if-not-block_allowed.true) c.refusal-then-not-block_allowed.ensures (refl, (refl, tt))
+    replies_refused _ _ _ _ (compact_8 _ _ _ _ _ _ _ c.if-index-gt-MAX_INDEX.false _ c.block_allowed.ensures c.if-not-block_allowed.true) c.from-then-not-block_allowed.ensures (refl, (refl, tt))

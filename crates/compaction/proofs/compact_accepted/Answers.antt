@@ -8,12 +8,12 @@ use Rattle.compaction.proofs.compact_accepted.Goals as goal
 pub returns-then-list-k : goal.returns-then-list-k
 unfolding count
 returns-then-list-k c =
-    replies_refused _ _ _ _ (later_10 _ _ _ _ _ _ _ c.if-list-k.true) c.refusal.ensures (refl, (refl, tt))
+    replies_refused _ _ _ _ (later_10 _ _ _ _ _ _ _ c.if-list-k.true) c.from.ensures (refl, (refl, tt))
 
 pub returns-then-in_use : goal.returns-then-in_use
 unfolding count
 returns-then-in_use c =
-    replies_refused _ _ _ _ (later_9 _ _ _ _ _ _ _ c.if-list-k.false (sym c.in_use.ensures ∙ c.if-in_use.true)) c.refusal-then-in_use.ensures (refl, (refl, tt))
+    replies_refused _ _ _ _ (later_9 _ _ _ _ _ _ _ c.if-list-k.false (sym c.in_use.ensures ∙ c.if-in_use.true)) c.from-then-in_use.ensures (refl, (refl, tt))
 
 pub compact_first-requires : goal.compact_first-requires
 unfolding count

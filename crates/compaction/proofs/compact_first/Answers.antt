@@ -45,7 +45,7 @@ pub returns-then-new_list-list_bytes : goal.returns-then-new_list-list_bytes
 returns-then-new_list-list_bytes c =
     replies_refused _ _ _ _
     (first_short_list _ (bytes (goal.at.returns-then-new_list-list_bytes c).After-shared_slice_known-1) c.requires.accepts.whole _ c.requires.k_bound _ _ c.span-span.ensures _ _ c.args.new_id _ c.stand_in_bytes.ensures c.args.plan.now c.args.new_list.now c.if-new_list-list_bytes.true)
-    c.refusal.ensures (refl, (refl, tt))
+    c.from.ensures (refl, (refl, tt))
 
 pub planned-requires : goal.planned-requires
 planned-requires c =

@@ -19,7 +19,7 @@ use Rattle.files.specs.Calls.{lists_in, file_bytes, chunks_rows, file_rows, file
 use Rattle.files.specs.File.{file_reads, file_end, file_plan}
 use Rattle.files.proofs.Laws.Bytes.{file_plan_back, file_bytes_back}
 use Rattle.files.proofs.Laws.Chunks.{Right, right_chunks}
-use Rattle.joined.specs.declared.ListRefusal.{ListRefusal}
+use Rattle.joined.specs.Refusals.{ListRefusal}
 
 module _ (bs ns : List ℕ) (b : Bytes bs) (first file_len B start count room : ℕ) (out : List ℕ) (h : file_outcome bs ns first file_len B start count room ≡ done out) where
   no_row : NoneHolds (file_rows bs ns first file_len B start count room)

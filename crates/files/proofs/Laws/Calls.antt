@@ -28,7 +28,7 @@ use Rattle.files.specs.Calls.{wrong_chunks, lists_in, file_bytes, delivered_file
 use Rattle.files.specs.File.{file_end, file_pieces, file_plan, chunk_plans}
 use Rattle.files.proofs.Laws.Joins.{file_pieces_join}
 use Rattle.slices.specs.declared.Record.{Record}
-use Rattle.joined.specs.declared.ListRefusal.{ListRefusal}
+use Rattle.joined.specs.Refusals.{ListRefusal}
 use Rattle.std.specs.Prelude.{Ok, Err}
 
 -- the plan of a read that goes from `from` up to `end`

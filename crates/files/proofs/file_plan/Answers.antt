@@ -32,7 +32,7 @@ told c = sym c.check_lists.ensures ∙ c.in_ok-n.was
 
 pub returns-then-wrong_chunks : goal.returns-then-wrong_chunks
 returns-then-wrong_chunks c =
-    rw c.refusal.ensures (replies_refused _ _ _ _ (file_21 _ _ _ _ _ _ _ _ (sym c.wrong_chunks.ensures ∙ c.if-wrong_chunks.true)) refl (refl, tt))
+    rw c.from.ensures (replies_refused _ _ _ _ (file_21 _ _ _ _ _ _ _ _ (sym c.wrong_chunks.ensures ∙ c.if-wrong_chunks.true)) refl (refl, tt))
 
 pub check_lists-requires : goal.check_lists-requires
 check_lists-requires c =
@@ -77,6 +77,6 @@ returns c =
 
 pub returns-then-not-block_allowed : goal.returns-then-not-block_allowed
 returns-then-not-block_allowed c =
-    rw c.refusal-then-not-block_allowed.ensures
+    rw c.from-then-not-block_allowed.ensures
     (replies_refused _ _ _ _
     (file_8 _ _ _ _ _ _ _ _ (sym c.wrong_chunks.ensures ∙ c.if-wrong_chunks.false) (sym c.block_allowed.ensures ∙ c.if-not-block_allowed.true)) refl (refl, tt))

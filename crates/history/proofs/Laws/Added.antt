@@ -22,7 +22,7 @@ use Rattle.slices.proofs.Laws.OneSize.{one_size_table, table_one_size, sizes_of,
 use Rattle.history.specs.History.{begins, history_outcome, part_for, added_part, Continues}
 use Rattle.history.proofs.Laws.Begins.{begins_exactly, begins_rest}
 use Rattle.history.proofs.Laws.Calls.{history_accepts, no_begins}
-use Rattle.outcomes.specs.declared.Refusal.{Refusal}
+use Rattle.outcomes.specs.Outcome.{Refusal}
 use Rattle.slices.specs.declared.Record.{Record}
 
 -- ---- a list of whole records, and more of them behind it

@@ -16,7 +16,7 @@ use Rattle.slices.specs.Refusals.{list_rows, check_outcome, checked}
 use Rattle.slices.proofs.Laws.Refusals.{list_stops, list_lets, check_stops, check_lets, none_accepts, accepted_exactly, check_answered_exactly}
 use Rattle.history.specs.History.{begins, history_rows, history_outcome, told, part_for, added_part, Continues}
 use Rattle.history.proofs.Laws.Begins.{begins_longer, begins_exactly}
-use Rattle.outcomes.specs.declared.Refusal.{Refusal}
+use Rattle.outcomes.specs.Outcome.{Refusal}
 use Rattle.std.specs.Prelude.{Ok, Err}
 
 -- ---- what an answer says

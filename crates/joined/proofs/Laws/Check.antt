@@ -15,7 +15,7 @@ use Rattle.joined.specs.Lists.{total, parts}
 use Rattle.joined.specs.Refusals.{of_list, lists_rows, lists_outcome, checked_lists}
 use Rattle.joined.proofs.Laws.Lists.{parts-length, Gone, gone_start, gone_next, next_list}
 use Rattle.joined.proofs.Laws.Refusals.{list_refuses, list_passes}
-use Rattle.outcomes.specs.declared.Refusal.{Refusal}
+use Rattle.outcomes.specs.Outcome.{Refusal}
 
 -- k lists are accepted, and their bytes end at `at`
 pub record Ahead (first : ℕ) (ns bs : List ℕ) (at k : ℕ) : Type 0 where
@@ -53,9 +53,8 @@ module _ (first : ℕ) (ns bs : List ℕ) where
           let e = check_stops part (done (count part)) r c in
           sym (ap checked_lists (decided ∙ list_refuses (first + k) part (parts (drop (suc k) ns) (drop end bs)) _ r e))
 
-    pub ahead_end : length ns ≤ k → Ok k ≡ checked_lists (lists_outcome first (parts ns bs))
+    pub ahead_end : length ns ≤ k → Ok (length ns) ≡ checked_lists (lists_outcome first (parts ns bs))
     unfolding answer_of parts lists_rows first_of
     ahead_end h =
-        let z : length ns ≡ k = omega (arith, a.gone.within) in
         let none = drop_of_length-le ns h in
-        sym (ap checked_lists (rw (none, z) at a.decides))
+        sym (ap checked_lists (rw none at a.decides))

@@ -16,8 +16,8 @@ use Rattle.slices.specs.Record.{count}
 use Rattle.slices.specs.Refusals.{list_rows, check_outcome, checked}
 use Rattle.slices.proofs.Laws.Refusals.{none_accepts, accepted_exactly, check_answered_exactly, check_accepts}
 use Rattle.joined.specs.Refusals.{of_list, rows_of, lists_rows, lists_outcome, checked_lists, FirstRefusedList}
-use Rattle.outcomes.specs.declared.Refusal.{Refusal}
-use Rattle.joined.specs.declared.ListRefusal.{ListRefusal}
+use Rattle.outcomes.specs.Outcome.{Refusal}
+use Rattle.joined.specs.Refusals.{ListRefusal}
 use Rattle.std.specs.Prelude.{Ok, Err}
 
 -- ---- a table that speaks of one list: its rows hold as they do without the index

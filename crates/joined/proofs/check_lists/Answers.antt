@@ -25,12 +25,9 @@ overflow_add-end c = let i = inside (goal.at.overflow_add-end c).In-loop-k in om
 pub slice_bounds-check_list-end : goal.slice_bounds-check_list-end
 slice_bounds-check_list-end c = inside (goal.at.slice_bounds-check_list-end c).In-loop-k
 
-pub overflow_add-result : goal.overflow_add-result
-overflow_add-result c = omega (arith, c.requires.lengths_bound)
-
 pub returns-in-Err : goal.returns-in-Err
 returns-in-Err c =
-    ahead_refused _ _ _ _ _ c.loop-k.invariant c.loop-k-test.true _ refl _ (sym c.check_list.ensures ∙ c.in-Err.is)
+    rw c.of.ensures (ahead_refused _ _ _ _ _ c.loop-k.invariant c.loop-k-test.true _ refl _ (sym c.check_list.ensures ∙ c.in-Err.is))
 
 pub loop-k-preserved : goal.loop-k-preserved
 loop-k-preserved c =

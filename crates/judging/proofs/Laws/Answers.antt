@@ -12,7 +12,7 @@ use Rattle.slices.specs.Record.{records}
 use Rattle.joined.specs.Lists.{parts}
 use Rattle.joined.specs.Refusals.{lists_outcome, checked_lists}
 use Rattle.std.specs.Prelude.{Ok, Err}
-use Rattle.joined.specs.declared.ListRefusal.{ListRefusal}
+use Rattle.joined.specs.Refusals.{ListRefusal}
 use Rattle.joined.proofs.Laws.Lists.{parts-length}
 use Rattle.joined.proofs.Laws.Refusals.{said_accepted}
 use Rattle.plans.specs.Inner.{Cut}

@@ -6,7 +6,7 @@ use mathlib.Core.List.{List}
 use lib.ListN.{length}
 use Rattle.outcomes.specs.Outcome.{refused, done, NoneHolds, Given}
 use Rattle.outcomes.proofs.Laws.Outcome.{none_passes, refused_exactly, stops}
-use Rattle.joined.specs.declared.ListRefusal.{ListRefusal}
+use Rattle.joined.specs.Refusals.{ListRefusal}
 use Rattle.files.specs.Calls.{chunks_rows, file_bytes, file_outcome}
 use Rattle.files.proofs.Laws.Calls.{file_fits}
 use Rattle.judging.specs.Calls.{site_in, read_length, judge_outcome}

@@ -38,7 +38,7 @@ use Rattle.judging.proofs.Laws.Cuts.{cut_right, cut_held, order_all, order_held}
 use Rattle.judging.proofs.Laws.Right.{Right}
 use Rattle.judging.proofs.Laws.Runs.{runs_right, runs_once}
 use Rattle.judging.proofs.Laws.Written.{SiteFits, written_accepted}
-use Rattle.joined.specs.declared.ListRefusal.{ListRefusal}
+use Rattle.joined.specs.Refusals.{ListRefusal}
 use Rattle.slices.specs.declared.Record.{Record}
 
 -- ---- the lists

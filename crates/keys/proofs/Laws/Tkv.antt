@@ -16,7 +16,7 @@ use Rattle.codec.proofs.Laws.Fixed.{length-big_endian, number_at_behind, number_
 use Rattle.codec.proofs.Laws.Little.{length-little_endian, little_at_bound, little_back, little_forth}
 use Rattle.outcomes.specs.Numbers.{not_of_form}
 use Rattle.outcomes.specs.Outcome.{refused, done, refusal, first_of}
-use Rattle.outcomes.specs.declared.Refusal.{Refusal}
+use Rattle.outcomes.specs.Outcome.{Refusal}
 use Rattle.keys.specs.Limits.{tkv_size}
 use Rattle.texts.specs.Inverse.{Inverse}
 use Rattle.keys.specs.Keys.{Chunk, chunk, chunk_allowed, tkv_key, tkv_shape, read_tkv, write_tkv}

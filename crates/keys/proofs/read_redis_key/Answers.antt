@@ -21,4 +21,4 @@ returns-in-Next c =
 pub returns-in-Stop : goal.returns-in-Stop
 unfolding read_redis
 returns-in-Stop c =
-    answer_stopped _ _ chunk_of (steps (goal.at.returns-in-Stop c).After-end_after) c.in-Stop.is c.refusal.ensures
+    answer_stopped _ _ chunk_of (steps (goal.at.returns-in-Stop c).After-end_after) c.in-Stop.is c.from.ensures

@@ -18,7 +18,7 @@ unfolding answer_of
 returns-then-not-tkv_shape c =
     let key = c.args.key.now in
     let e : tkv_shape key ≡ false = sym c.tkv_shape.ensures ∙ c.if-not-tkv_shape.true in
-    ap Err c.refusal.ensures ∙ sym (ap chunk_answer (read_unshaped key e))
+    ap Err c.from.ensures ∙ sym (ap chunk_answer (read_unshaped key e))
 
 pub read_le64-requires : goal.read_le64-requires
 read_le64-requires c = let s = shaped c.args.key.now (right c) in omega arith

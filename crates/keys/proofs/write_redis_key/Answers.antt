@@ -8,12 +8,12 @@ use Rattle.keys.proofs.write_redis_key.Goals as goal
 pub returns-then-index-gt-MAX_INDEX : goal.returns-then-index-gt-MAX_INDEX
 returns-then-index-gt-MAX_INDEX c =
     let a = c.args in
-    answers_not (chunk_allowed a.inode a.index) (redis_key a.inode a.index) a.out.now _ (chunk_large a.inode a.index (omega arith) c.if-index-gt-MAX_INDEX.true) c.refusal.ensures
+    answers_not (chunk_allowed a.inode a.index) (redis_key a.inode a.index) a.out.now _ (chunk_large a.inode a.index (omega arith) c.if-index-gt-MAX_INDEX.true) c.from.ensures
 
 pub returns-then-out-i : goal.returns-then-out-i
 returns-then-out-i c =
     let a = c.args in
-    answers_short (chunk_allowed a.inode a.index) (redis_key a.inode a.index) a.out.now _ (chunk_allowed_lem a.inode a.index (record { inode = omega arith; index = c.if-index-gt-MAX_INDEX.false })) (omega (arith, redis_length_lem a.inode a.index, c.digits-i.ensures.0, c.digits-j.ensures.0, c.if-out-i.true)) c.refusal-then-out-i.ensures
+    answers_short (chunk_allowed a.inode a.index) (redis_key a.inode a.index) a.out.now _ (chunk_allowed_lem a.inode a.index (record { inode = omega arith; index = c.if-index-gt-MAX_INDEX.false })) (omega (arith, redis_length_lem a.inode a.index, c.digits-i.ensures.0, c.digits-j.ensures.0, c.if-out-i.true)) c.from-then-out-i.ensures
 
 pub returns : goal.returns
 returns c =

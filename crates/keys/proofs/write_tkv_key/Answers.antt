@@ -11,7 +11,7 @@ use Rattle.keys.proofs.write_tkv_key.Goals as goal
 pub returns-then-index-gt-MAX_INDEX : goal.returns-then-index-gt-MAX_INDEX
 returns-then-index-gt-MAX_INDEX c =
     let a = c.args in
-    answers_not (chunk_allowed a.inode a.index) (tkv_key a.inode a.index) a.out.now _ (chunk_large a.inode a.index (omega arith) c.if-index-gt-MAX_INDEX.true) c.refusal.ensures
+    answers_not (chunk_allowed a.inode a.index) (tkv_key a.inode a.index) a.out.now _ (chunk_large a.inode a.index (omega arith) c.if-index-gt-MAX_INDEX.true) c.from.ensures
 
 pub returns : goal.returns
 returns c =

@@ -16,7 +16,7 @@ use Rattle.views.proofs.Laws.ViewBack.{view_done_back}
 use Rattle.slices.specs.declared.Record.{Record}
 use Rattle.listing.specs.Listing.{file_limit, header, lines, refused_line, text_of, listing}
 use Rattle.listing.specs.Calls.{text_room, text_outcome}
-use Rattle.outcomes.specs.declared.Refusal.{Refusal}
+use Rattle.outcomes.specs.Outcome.{Refusal}
 
 module _ (longer : Bool) (bs : List ℕ) where
   pub text_12 : (room : ℕ) → room < text_room → text_outcome longer bs room ≡ refused (refusal short_buffer 0)

@@ -30,14 +30,14 @@ room : (c : In-Ok) → length (wrote c).bytes ≤ file_limit
 room c = (view_fits _ _ _ _ (wrote c).outcome).1
 
 pub returns-then-out-lt-TEXT : goal.returns-then-out-lt-TEXT
-returns-then-out-lt-TEXT c = answers_refusal _ _ _ _ (text_12 _ _ _ c.if-out-lt-TEXT.true) c.refusal.ensures
+returns-then-out-lt-TEXT c = answers_refusal _ _ _ _ (text_12 _ _ _ c.if-out-lt-TEXT.true) c.from.ensures
 
 pub returns-then-longer : goal.returns-then-longer
 returns-then-longer c =
     let a = c.args in
     let e = text_done a.longer a.list.now _ c.if-out-lt-TEXT.false in
     let l = listing_longer a.longer a.list.now c.if-longer.true in
-    let w = rw c.refusal-then-longer.ensures at c.put_refused.ensures in
+    let w = rw c.from-then-longer.ensures at c.put_refused.ensures in
     answers_done _ _ _ _ _ (e ∙ ap done l) (sym w.0) w.1
 
 pub slice_bounds-view-end-in-Ok : goal.slice_bounds-view-end-in-Ok

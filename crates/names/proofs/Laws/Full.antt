@@ -15,7 +15,7 @@ use Rattle.codec.specs.declared.scan.Step.TheVariants.{Next, Stop}
 use Rattle.codec.proofs.Laws.Decimal.{spelled}
 use Rattle.outcomes.specs.Numbers.{not_of_form}
 use Rattle.outcomes.specs.Outcome.{Outcome, refused, done, refusal}
-use Rattle.outcomes.specs.declared.Refusal.{Refusal}
+use Rattle.outcomes.specs.Outcome.{Refusal}
 use Rattle.names.specs.Limits.{max_volume}
 use Rattle.texts.specs.Words.{slash, underscore}
 use Rattle.texts.specs.Parts.{write, allows, Scan, onward, scan}

@@ -15,7 +15,7 @@ unfolding full_allowed
 returns-then-not-allowed c =
     let a = c.args in
     let v : volume_allowed a.volume.now ≡ false = sym c.allowed.ensures ∙ c.if-not-allowed.true in
-    answers_not (full_allowed a.volume.now a.id a.block a.size) (full_name a.volume.now a.id a.block a.size) a.out.now _ (rw v) c.refusal.ensures
+    answers_not (full_allowed a.volume.now a.id a.block a.size) (full_name a.volume.now a.id a.block a.size) a.out.now _ (rw v) c.from.ensures
 
 pub returns-then-not-allowed-2 : goal.returns-then-not-allowed-2
 unfolding full_allowed
@@ -23,7 +23,7 @@ returns-then-not-allowed-2 c =
     let a = c.args in
     let v : volume_allowed a.volume.now ≡ true = sym c.allowed.ensures ∙ c.if-not-allowed.false in
     let o : object_allowed a.id a.block a.size ≡ false = sym c.allowed-2.ensures ∙ c.if-not-allowed-2.true in
-    answers_not (full_allowed a.volume.now a.id a.block a.size) (full_name a.volume.now a.id a.block a.size) a.out.now _ (rw (v, o)) c.refusal-then-not-allowed-2.ensures
+    answers_not (full_allowed a.volume.now a.id a.block a.size) (full_name a.volume.now a.id a.block a.size) a.out.now _ (rw (v, o)) c.from-then-not-allowed-2.ensures
 
 pub returns-then-out-volume : goal.returns-then-out-volume
 unfolding full_allowed
@@ -32,7 +32,7 @@ returns-then-out-volume c =
     let v : volume_allowed a.volume.now ≡ true = sym c.allowed.ensures ∙ c.if-not-allowed.false in
     let o : object_allowed a.id a.block a.size ≡ true = sym c.allowed-2.ensures ∙ c.if-not-allowed-2.false in
     let w : Widths a.id a.block a.size _ _ _ = record { of_id = c.digits-i.ensures.0; of_block = c.digits-b.ensures.0; of_size = c.digits-s.ensures.0 } in
-    answers_short (full_allowed a.volume.now a.id a.block a.size) (full_name a.volume.now a.id a.block a.size) a.out.now _ (rw (v, o)) (omega (arith, full-length a.id a.block a.size a.volume.now, name_length_lem a.id a.block a.size w, c.length-n.ensures.0, c.if-out-volume.true)) c.refusal-then-out-volume.ensures
+    answers_short (full_allowed a.volume.now a.id a.block a.size) (full_name a.volume.now a.id a.block a.size) a.out.now _ (rw (v, o)) (omega (arith, full-length a.id a.block a.size a.volume.now, name_length_lem a.id a.block a.size w, c.length-n.ensures.0, c.if-out-volume.true)) c.from-then-out-volume.ensures
 
 pub put_full-requires : goal.put_full-requires
 put_full-requires c =

@@ -11,12 +11,12 @@ use Rattle.names.proofs.write_object_name.Goals as goal
 pub returns-then-not-allowed : goal.returns-then-not-allowed
 returns-then-not-allowed c =
     let a = c.args in
-    answers_not (object_allowed a.id a.block a.size) (object_name a.id a.block a.size) a.out.now _ (sym c.allowed.ensures ∙ c.if-not-allowed.true) c.refusal.ensures
+    answers_not (object_allowed a.id a.block a.size) (object_name a.id a.block a.size) a.out.now _ (sym c.allowed.ensures ∙ c.if-not-allowed.true) c.from.ensures
 
 pub returns-then-out-n : goal.returns-then-out-n
 returns-then-out-n c =
     let a = c.args in
-    answers_short (object_allowed a.id a.block a.size) (object_name a.id a.block a.size) a.out.now _ (sym c.allowed.ensures ∙ c.if-not-allowed.false) (omega (arith, name_length_lem a.id a.block a.size (record { of_id = c.digits-i.ensures.0; of_block = c.digits-b.ensures.0; of_size = c.digits-s.ensures.0 }), c.length-n.ensures.0, c.if-out-n.true)) c.refusal-then-out-n.ensures
+    answers_short (object_allowed a.id a.block a.size) (object_name a.id a.block a.size) a.out.now _ (sym c.allowed.ensures ∙ c.if-not-allowed.false) (omega (arith, name_length_lem a.id a.block a.size (record { of_id = c.digits-i.ensures.0; of_block = c.digits-b.ensures.0; of_size = c.digits-s.ensures.0 }), c.length-n.ensures.0, c.if-out-n.true)) c.from-then-out-n.ensures
 
 pub put-requires : goal.put-requires
 put-requires c =

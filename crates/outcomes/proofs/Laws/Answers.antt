@@ -12,7 +12,7 @@ use Rattle.outcomes.specs.Numbers.{short_buffer}
 use Rattle.outcomes.specs.Outcome.{OutcomeOf, refused, done, Outcome, refusal, delivered}
 use Rattle.outcomes.proofs.Laws.Outcome.{short_refused, short_done}
 use Rattle.outcomes.specs.Answers.{answer_of, left_in, Lent, Replies, Answers, Front, Written}
-use Rattle.outcomes.specs.declared.Refusal.{Refusal}
+use Rattle.outcomes.specs.Outcome.{Refusal}
 use Rattle.std.specs.Prelude.{Result, Ok, Err}
 
 -- ---- any number of buffers

@@ -10,7 +10,7 @@ use Rattle.outcomes.proofs.deliver.Goals as goal
 pub returns-then-out-bytes : goal.returns-then-out-bytes
 returns-then-out-bytes c =
     let a = c.args in
-    answers_refused _ _ a.out.now (short_refused a.bytes.now (length a.out.now) c.if-out-bytes.true ∙ ap refused (sym c.refusal.ensures))
+    answers_refused _ _ a.out.now (short_refused a.bytes.now (length a.out.now) c.if-out-bytes.true ∙ ap refused (sym c.from.ensures))
 
 pub returns : goal.returns
 returns c =

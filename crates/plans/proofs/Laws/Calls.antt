@@ -19,7 +19,7 @@ use Rattle.plans.specs.Plan.{pieces}
 use Rattle.plans.specs.Inner.{Cut}
 use Rattle.plans.specs.Calls.{past_index, plan_bytes, chunk_rows, read_rows, read_outcome}
 use Rattle.plans.proofs.Laws.Walk.{plan_cut}
-use Rattle.outcomes.specs.declared.Refusal.{Refusal}
+use Rattle.outcomes.specs.Outcome.{Refusal}
 use Rattle.std.specs.Prelude.{Ok, Err}
 
 -- ---- the refusals of every read of one chunk, whatever it does behind them

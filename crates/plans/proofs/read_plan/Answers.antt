@@ -25,12 +25,12 @@ ranged c = block_range _ (sym c.block_allowed.ensures ∙ c.if-not-block_allowed
 
 pub returns-then-chunk_len : goal.returns-then-chunk_len
 unfolding chunk
-returns-then-chunk_len c = answers_refusal _ _ _ _ (read_7 _ _ _ _ _ _ _ c.if-chunk_len.true) c.refusal.ensures
+returns-then-chunk_len c = answers_refusal _ _ _ _ (read_7 _ _ _ _ _ _ _ c.if-chunk_len.true) c.from.ensures
 
 pub returns-then-index-gt-MAX_INDEX : goal.returns-then-index-gt-MAX_INDEX
 unfolding chunk
 returns-then-index-gt-MAX_INDEX c =
-    answers_refusal _ _ _ _ (read_21 _ _ _ _ _ _ _ c.if-chunk_len.false c.if-index-gt-MAX_INDEX.true) c.refusal-then-index-gt-MAX_INDEX.ensures
+    answers_refusal _ _ _ _ (read_21 _ _ _ _ _ _ _ c.if-chunk_len.false c.if-index-gt-MAX_INDEX.true) c.from-then-index-gt-MAX_INDEX.ensures
 
 pub cut-read-requires : goal.cut-read-requires
 unfolding chunk
@@ -86,4 +86,4 @@ returns c =
 pub returns-then-not-block_allowed : goal.returns-then-not-block_allowed
 unfolding chunk
 returns-then-not-block_allowed c =
-    answers_refusal _ _ _ _ (read_8 _ _ _ _ _ _ _ c.if-chunk_len.false c.if-index-gt-MAX_INDEX.false _ c.block_allowed.ensures c.if-not-block_allowed.true) c.refusal-then-not-block_allowed.ensures
+    answers_refusal _ _ _ _ (read_8 _ _ _ _ _ _ _ c.if-chunk_len.false c.if-index-gt-MAX_INDEX.false _ c.block_allowed.ensures c.if-not-block_allowed.true) c.from-then-not-block_allowed.ensures

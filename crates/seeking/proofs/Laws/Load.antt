@@ -19,7 +19,7 @@ use Rattle.outcomes.specs.Outcome.{OutcomeOf, refused, done, RowOf, first_of, Ou
 use Rattle.outcomes.specs.Answers.{Answers, left_in, answer_of}
 use Rattle.outcomes.proofs.Laws.Outcome.{first_of-append}
 use Rattle.outcomes.proofs.Laws.Answers.{said_refused, said_wrote}
-use Rattle.outcomes.specs.declared.Refusal.{Refusal}
+use Rattle.outcomes.specs.Outcome.{Refusal}
 use Rattle.std.specs.Prelude.{Result, Ok, Err}
 use Rattle.slices.specs.Limits.{record_size, chunk}
 use Rattle.slices.specs.Refusals.{chunk_too_long, list_rows}

@@ -8,7 +8,7 @@ use lib.ListN.{length, get_or, drop}
 use Rattle.outcomes.specs.Outcome.{Outcome, refused, done, NoneHolds, Given}
 use Rattle.outcomes.specs.Answers.{answer_of, left_in}
 use Rattle.outcomes.proofs.Laws.Outcome.{refused_exactly, answered_exactly, done_is}
-use Rattle.outcomes.specs.declared.Refusal.{Refusal}
+use Rattle.outcomes.specs.Outcome.{Refusal}
 use Rattle.slices.specs.Record.{records}
 use Rattle.slices.specs.declared.Record.{Record}
 use Rattle.views.specs.View.{view}

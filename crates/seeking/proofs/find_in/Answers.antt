@@ -9,7 +9,7 @@ use Rattle.seeking.proofs.find_in.Goals as goal
 
 pub returns-then-view-ne0 : goal.returns-then-view-ne0
 unfolding answer_of
-returns-then-view-ne0 c = rw (view_1 _ _ _ c.if-view-ne0.true) (ap Err c.refusal.ensures)
+returns-then-view-ne0 c = rw (view_1 _ _ _ c.if-view-ne0.true) (ap Err c.from.ensures)
 
 pub seek-requires : goal.seek-requires
 unfolding count

@@ -26,7 +26,7 @@ use Rattle.codec.proofs.Laws.All.{all_append, all_left, all_right}
 use Rattle.slices.proofs.Laws.OneSize.{none_one_size, one_size_none}
 use Rattle.outcomes.proofs.Laws.Outcome.{first_of-append, none_passes, done_none, done_is, stops, row_holds, row_passes, refused_exactly, answered_exactly}
 use Rattle.slices.specs.declared.Record.{Record}
-use Rattle.outcomes.specs.declared.Refusal.{Refusal}
+use Rattle.outcomes.specs.Outcome.{Refusal}
 use Rattle.std.specs.Prelude.{Ok, Err}
 use Rattle.outcomes.specs.Answers.{answer_of}
 

@@ -20,7 +20,7 @@ use Rattle.stepping.specs.Calls.{next_outcome, as_given, next_answer}
 use Rattle.stepping.specs.Inner.{PieceFrom}
 use Rattle.stepping.proofs.Laws.Leads.{step_piece}
 use Rattle.stepping.proofs.Laws.Steps.{finished_stays}
-use Rattle.outcomes.specs.declared.Refusal.{Refusal}
+use Rattle.outcomes.specs.Outcome.{Refusal}
 use Rattle.slices.specs.declared.Record.{Record}
 use Rattle.plans.specs.declared.Piece.{Piece}
 

@@ -23,8 +23,8 @@ use Rattle.stepping.specs.Step.{piece_in, next_step, chunk_site}
 use Rattle.stepping.specs.Calls.{next_outcome, plan_pieces, next_file_outcome, file_pieces}
 use Rattle.stepping.specs.Claims.{PieceByPiece, OneAtATime}
 use Rattle.stepping.proofs.Laws.Steps.{piece_by_piece}
-use Rattle.outcomes.specs.declared.Refusal.{Refusal}
-use Rattle.joined.specs.declared.ListRefusal.{ListRefusal}
+use Rattle.outcomes.specs.Outcome.{Refusal}
+use Rattle.joined.specs.Refusals.{ListRefusal}
 
 -- ---- the pieces of a plan are its bytes
 

@@ -30,7 +30,7 @@ use Rattle.stepping.specs.Inner.{PieceFrom}
 use Rattle.stepping.proofs.Laws.Leads.{step_piece}
 use Rattle.stepping.proofs.Laws.Steps.{finished_stays}
 use Rattle.slices.specs.declared.Record.{Record}
-use Rattle.joined.specs.declared.ListRefusal.{ListRefusal}
+use Rattle.joined.specs.Refusals.{ListRefusal}
 use Rattle.plans.specs.declared.Piece.{Piece}
 
 -- ---- the step of a read across chunks

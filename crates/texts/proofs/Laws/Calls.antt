@@ -12,7 +12,7 @@ use Rattle.codec.specs.Inner.{Puts}
 use Rattle.outcomes.specs.Numbers.{not_of_form, short_buffer}
 use Rattle.outcomes.specs.Outcome.{Outcome, refused, done, refusal, first_of, too_short}
 use Rattle.outcomes.specs.Answers.{Answers}
-use Rattle.outcomes.specs.declared.Refusal.{Refusal}
+use Rattle.outcomes.specs.Outcome.{Refusal}
 use Rattle.std.specs.Prelude.{Result, Ok, Err}
 use Rattle.outcomes.proofs.Laws.Answers.{answers_refused, answers_done}
 use Rattle.texts.specs.Parts.{Scan, found, stop}

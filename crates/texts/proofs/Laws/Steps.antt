@@ -15,7 +15,7 @@ use Rattle.texts.specs.Calls.{reading}
 use Rattle.outcomes.specs.Numbers.{not_of_form}
 use Rattle.outcomes.specs.Outcome.{refusal}
 use Rattle.outcomes.specs.Answers.{answer_of}
-use Rattle.outcomes.specs.declared.Refusal.{Refusal}
+use Rattle.outcomes.specs.Outcome.{Refusal}
 
 -- a word's next byte
 module _ (w text : List ℕ) (k i : ℕ) (more : k < length w) where

@@ -19,7 +19,7 @@ use Rattle.views.specs.View.{tidied_bytes}
 use Rattle.views.specs.Calls.{max_tidied, tidied_too_long, view_bytes, view_rows, view_outcome, tidy_rows, tidy_outcome}
 use Rattle.views.specs.Inner.{view_from, too_long, runs_outcome}
 use Rattle.views.proofs.Laws.ViewFrom.{view_from-view, view_from-tidied}
-use Rattle.outcomes.specs.declared.Refusal.{Refusal}
+use Rattle.outcomes.specs.Outcome.{Refusal}
 use Rattle.std.specs.Prelude.{Ok, Err}
 
 -- ---- view

@@ -17,7 +17,7 @@ use Rattle.slices.proofs.Laws.Record.{length-encode_all}
 use Rattle.outcomes.specs.Numbers as number
 use Rattle.outcomes.specs.Outcome.{refusal, delivered}
 use Rattle.std.specs.Prelude.{Ok, Err}
-use Rattle.outcomes.specs.declared.Refusal.{Refusal}
+use Rattle.outcomes.specs.Outcome.{Refusal}
 use Rattle.resolve.specs.Resolved.{Resolved}
 use Rattle.views.specs.Calls.{max_tidied}
 use Rattle.views.specs.Inner.{view_from, too_long, Roomy, runs_outcome}

@@ -18,7 +18,7 @@ accepted c = sym c.check_list.ensures ∙ c.in_ok-n.was
 
 pub returns-then-chunk_len : goal.returns-then-chunk_len
 unfolding chunk
-returns-then-chunk_len c = answers_refusal _ _ _ _ (view_7 _ _ _ c.if-chunk_len.true) c.refusal.ensures
+returns-then-chunk_len c = answers_refusal _ _ _ _ (view_7 _ _ _ c.if-chunk_len.true) c.from.ensures
 
 pub sized-requires-clause-all : goal.sized-requires-clause-all
 sized-requires-clause-all c = (check_accepts _ _ (accepted (goal.at.sized-requires-clause-all c).In_ok-n)).pass

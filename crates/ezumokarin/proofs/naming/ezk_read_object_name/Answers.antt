@@ -1,7 +1,7 @@
 -- `ezumokarin::naming::ezk_read_object_name` meets its contract: it passes the answer on. Assumes nothing.
 use mathlib.Core.Path.{ap, ◌∙◌}
 use Rattle.std.specs.Prelude.{Result}
-use Rattle.outcomes.specs.declared.Refusal.{Refusal}
+use Rattle.outcomes.specs.Outcome.{Refusal}
 use Rattle.names.specs.declared.ObjectName.{ObjectName}
 use Rattle.ezumokarin.specs.Names.{plain_object}
 use Rattle.ezumokarin.proofs.Laws.{plain_object_lem}

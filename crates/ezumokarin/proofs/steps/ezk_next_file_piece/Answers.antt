@@ -2,7 +2,7 @@
 use mathlib.Core.Path.{ap, ◌∙◌}
 use Rattle.std.specs.Prelude.{Option, Result}
 use Rattle.stepping.specs.declared.Given.{Given}
-use Rattle.joined.specs.declared.ListRefusal.{ListRefusal}
+use Rattle.joined.specs.Refusals.{ListRefusal}
 use Rattle.ezumokarin.specs.Steps.{plain_file_next}
 use Rattle.ezumokarin.proofs.Laws.{plain_file_next_lem}
 use Rattle.ezumokarin.proofs.steps.ezk_next_file_piece.Goals as goal

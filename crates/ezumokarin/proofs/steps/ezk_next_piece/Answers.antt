@@ -2,7 +2,7 @@
 use mathlib.Core.Path.{ap, ◌∙◌}
 use Rattle.std.specs.Prelude.{Option, Result}
 use Rattle.stepping.specs.declared.Given.{Given}
-use Rattle.outcomes.specs.declared.Refusal.{Refusal}
+use Rattle.outcomes.specs.Outcome.{Refusal}
 use Rattle.ezumokarin.specs.Steps.{plain_next}
 use Rattle.ezumokarin.proofs.Laws.{plain_next_lem}
 use Rattle.ezumokarin.proofs.steps.ezk_next_piece.Goals as goal

@@ -45,7 +45,7 @@ in_room-need-requires c =
 
 pub returns-then-out-need : goal.returns-then-out-need
 returns-then-out-need c =
-    rw c.refusal.ensures (counted_short _ (bytes (goal.at.returns-then-out-need c).Start) c.args.out.now Err Ok _ c.in_room-need.ensures.out_after _ c.in_room-need.ensures.value c.if-out-need.true _ refl)
+    rw c.from.ensures (counted_short _ (bytes (goal.at.returns-then-out-need c).Start) c.args.out.now Err Ok _ c.in_room-need.ensures.out_after _ c.in_room-need.ensures.value c.if-out-need.true _ refl)
 
 pub in_room-requires-2 : goal.in_room-requires-2
 in_room-requires-2 c =

@@ -17,10 +17,12 @@ returns c =
     let a = c.args in
     let number = decimal a.r.number in
     let place = field a.r.place newline in
+    let d = rw c.number.ensures at c.put_decimal-b.ensures in
+    let f = rw c.place.ensures at c.put_field.ensures in
     let p₁ : Puts a.out.now 0 refused_word (length refused_word) _ _ = record { leaves = c.put-a.ensures.1; ends = c.put-a.ensures.0; fits = omega arith } in
-    let p₂ : Puts _ _ number 20 _ _ = record { leaves = c.put_decimal-b.ensures.2; ends = c.put_decimal-b.ensures.0; fits = omega arith } in
+    let p₂ : Puts _ _ number 20 _ _ = record { leaves = d.2; ends = d.0; fits = omega arith } in
     let p₃ : Puts _ _ at_word (length at_word) _ _ = record { leaves = c.put-c.ensures.1; ends = c.put-c.ensures.0; fits = omega arith } in
-    let p₄ : Puts _ _ place 21 _ _ = record { leaves = c.put_field.ensures.2; ends = c.put_field.ensures.0; fits = omega arith } in
+    let p₄ : Puts _ _ place 21 _ _ = record { leaves = f.2; ends = f.0; fits = omega arith } in
     let q₂ = puts_then p₁ p₂ (omega arith) in
     let q₃ = puts_then q₂ p₃ (omega arith) in
     let q₄ = puts_then q₃ p₄ (omega arith) in

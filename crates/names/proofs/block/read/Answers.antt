@@ -35,4 +35,4 @@ returns-in-Next c =
 
 pub returns-in-Stop : goal.returns-in-Stop
 returns-in-Stop c =
-    answer_stopped _ _ object_of (steps (goal.at.returns-in-Stop c).After-end_after) c.in-Stop.is c.refusal.ensures
+    answer_stopped _ _ object_of (steps (goal.at.returns-in-Stop c).After-end_after) c.in-Stop.is c.from.ensures

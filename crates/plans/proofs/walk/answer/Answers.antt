@@ -68,7 +68,7 @@ walk_pieces-need-requires c =
 
 pub returns-then-out-need : goal.returns-then-out-need
 returns-then-out-need c =
-    counted_short _ (bytes (goal.at.returns-then-out-need c).Start) c.args.out.now Err Ok _ c.walk_pieces-need.ensures.out_after _ (counts (goal.at.returns-then-out-need c).Start _ c.walk_pieces-need.ensures.value) c.if-out-need.true _ c.refusal.ensures
+    counted_short _ (bytes (goal.at.returns-then-out-need c).Start) c.args.out.now Err Ok _ c.walk_pieces-need.ensures.out_after _ (counts (goal.at.returns-then-out-need c).Start _ c.walk_pieces-need.ensures.value) c.if-out-need.true _ c.from.ensures
 
 pub walk_pieces-requires-2 : goal.walk_pieces-requires-2
 walk_pieces-requires-2 c =

@@ -10,12 +10,12 @@ use Rattle.slices.proofs.check.check_list.Goals as goal
 
 pub returns-then-list-ne0 : goal.returns-then-list-ne0
 unfolding answer_of
-returns-then-list-ne0 c = rw (check_1 c.args.list.now c.if-list-ne0.true) (ap Err c.refusal.ensures)
+returns-then-list-ne0 c = rw (check_1 c.args.list.now c.if-list-ne0.true) (ap Err c.from.ensures)
 
 pub returns-then-n-gt-RECORDS : goal.returns-then-n-gt-RECORDS
 unfolding answer_of count
 returns-then-n-gt-RECORDS c =
-    rw (check_2 c.args.list.now c.if-list-ne0.false c.if-n-gt-RECORDS.true) (ap Err c.refusal-then-n-gt-RECORDS.ensures)
+    rw (check_2 c.args.list.now c.if-list-ne0.false c.if-n-gt-RECORDS.true) (ap Err c.from-then-n-gt-RECORDS.ensures)
 
 pub refused_at-place-requires : goal.refused_at-place-requires
 unfolding count
@@ -26,11 +26,11 @@ unfolding answer_of count
 returns-then-place-n c =
     rw (check_start _ c.if-list-ne0.false c.if-n-gt-RECORDS.false, c.refused_at-place.ensures.says, eq-eqb _ _ c.if-place-n.true)
 
-pub number_at-number-requires : goal.number_at-number-requires
+pub kind_at-requires : goal.kind_at-requires
 unfolding count
-number_at-number-requires c = omega (arith, c.refused_at-place.ensures.within, c.if-place-n.false)
+kind_at-requires c = omega (arith, c.refused_at-place.ensures.within, c.if-place-n.false)
 
 pub returns : goal.returns
 unfolding answer_of count
 returns c =
-    rw (check_start _ c.if-list-ne0.false c.if-n-gt-RECORDS.false, c.refused_at-place.ensures.says, ne_eqb _ _ c.if-place-n.false, c.number_at-number.ensures)
+    rw (check_start _ c.if-list-ne0.false c.if-n-gt-RECORDS.false, c.refused_at-place.ensures.says, ne_eqb _ _ c.if-place-n.false, c.at.ensures, c.kind_at.ensures)

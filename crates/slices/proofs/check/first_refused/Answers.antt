@@ -3,6 +3,7 @@ use native.Mathlib.Omega.{arith}
 use mathlib.Core.Path.{sym, ap, ◌∙◌}
 use Rattle.slices.specs.Record.{count}
 use Rattle.slices.specs.Inner.{fault}
+use Rattle.outcomes.proofs.Laws.Kinds.{some_not_0, none_is_0}
 use Rattle.slices.proofs.Laws.Refusals.{refused_here, refused_later}
 use Rattle.slices.proofs.Laws.Sizes.{one_more, risen_more, agreed_accepted, no_other}
 use Rattle.slices.proofs.check.first_refused.Goals as goal
@@ -11,11 +12,11 @@ pub loop-i-init : goal.loop-i-init
 unfolding count
 loop-i-init c = (c.requires.from_bound, c.requires.passed, c.requires.risen)
 
-pub returns-then-check_record-ne0 : goal.returns-then-check_record-ne0
+pub returns-then-is_some : goal.returns-then-is_some
 unfolding count
-returns-then-check_record-ne0 c =
+returns-then-is_some c =
     let e = c.check_record.ensures ∙ ap fault c.read_record-r.ensures in
-    refused_here _ _ c.loop-i-test.true c.loop-i.invariant.1 (λ z. c.if-check_record-ne0.true (e ∙ z))
+    refused_here _ _ c.loop-i-test.true c.loop-i.invariant.1 (λ z. some_not_0 _ (sym c.is_some.ensures ∙ c.if-is_some.true) (e ∙ z))
 
 pub loop-i-preserved : goal.loop-i-preserved
 unfolding count
@@ -23,7 +24,7 @@ loop-i-preserved c =
     let l = c.loop-i.invariant in
     let e = c.check_record.ensures ∙ ap fault c.read_record-r.ensures in (
       omega arith,
-      one_more _ _ l.1 (sym e ∙ c.if-check_record-ne0.false),
+      one_more _ _ l.1 (sym e ∙ none_is_0 _ (sym c.is_some.ensures ∙ c.if-is_some.false)),
       (λ h.
           let r = rw c.read_record-r.ensures at (c.risen-last.ensures h) in
           risen_more _ _ _ _ (l.2 (omega (arith, r.0))) r.0 r.1 r.2),

@@ -7,14 +7,15 @@ use lib.ListN.{length}
 use Rattle.slices.specs.Limits.{record_size}
 use Rattle.slices.specs.Record.{count}
 use Rattle.slices.specs.Inner.{fault}
+use Rattle.outcomes.proofs.Laws.Kinds.{none_is_0}
 use Rattle.slices.proofs.Laws.Sizes.{one_more, agreed_none}
 use Rattle.slices.proofs.check.sound.Goals as goal
 
 pub loop-i-init : goal.loop-i-init
 loop-i-init c = record { within = zero-le; passed = λ j l. absurd (omega arith); agreed = agreed_none _ }
 
-pub returns-then-check_record-ne0 : goal.returns-then-check_record-ne0
-returns-then-check_record-ne0 c = c.loop-i.invariant
+pub returns-then-is_some : goal.returns-then-is_some
+returns-then-is_some c = c.loop-i.invariant
 
 pub agrees-requires : goal.agrees-requires
 unfolding count
@@ -27,7 +28,7 @@ loop-i-preserved c =
     let e = c.check_record.ensures ∙ ap fault c.read_record.ensures in
     record {
       within = omega (arith, c.loop-i-test.true);
-      passed = one_more _ _ l.passed (sym e ∙ c.if-check_record-ne0.false);
+      passed = one_more _ _ l.passed (sym e ∙ none_is_0 _ (sym c.is_some.ensures ∙ c.if-is_some.false));
       agreed = c.agrees.ensures c.if-not-agrees.false l.agreed;
     }
 

@@ -37,7 +37,7 @@ told c = sym c.check_lists.ensures ∙ c.in_ok-n.was
 
 pub returns-then-wrong_chunks : goal.returns-then-wrong_chunks
 returns-then-wrong_chunks c =
-    (ap Err c.refusal.ensures) ∙ next_file_refused _ _ _ _ _ _ _ _ _ _ (chunks_21 _ _ _ _ _ (sym c.wrong_chunks.ensures ∙ c.if-wrong_chunks.true)) refl
+    (ap Err c.from.ensures) ∙ next_file_refused _ _ _ _ _ _ _ _ _ _ (chunks_21 _ _ _ _ _ (sym c.wrong_chunks.ensures ∙ c.if-wrong_chunks.true)) refl
 
 pub check_lists-requires : goal.check_lists-requires
 check_lists-requires c =
@@ -93,5 +93,5 @@ returns c =
 
 pub returns-then-not-block_allowed : goal.returns-then-not-block_allowed
 returns-then-not-block_allowed c =
-    (ap Err c.refusal-then-not-block_allowed.ensures)
+    (ap Err c.from-then-not-block_allowed.ensures)
     ∙ next_file_refused _ _ _ _ _ _ _ _ _ _ (chunks_8 _ _ _ _ _ (not_wrong (goal.at.returns-then-not-block_allowed c).Else-wrong_chunks) (sym c.block_allowed.ensures ∙ c.if-not-block_allowed.true)) refl

@@ -24,12 +24,12 @@ allowed c = sym c.block_allowed.ensures ∙ c.if-not-block_allowed.false
 
 pub returns-then-chunk_len : goal.returns-then-chunk_len
 unfolding chunk
-returns-then-chunk_len c = next_refused _ _ _ _ _ _ _ _ _ (chunk_7 _ _ _ _ _ c.if-chunk_len.true) c.refusal.ensures
+returns-then-chunk_len c = next_refused _ _ _ _ _ _ _ _ _ (chunk_7 _ _ _ _ _ c.if-chunk_len.true) c.from.ensures
 
 pub returns-then-index-gt-MAX_INDEX : goal.returns-then-index-gt-MAX_INDEX
 unfolding chunk
 returns-then-index-gt-MAX_INDEX c =
-    next_refused _ _ _ _ _ _ _ _ _ (chunk_21 _ _ _ _ _ c.if-chunk_len.false c.if-index-gt-MAX_INDEX.true) c.refusal-then-index-gt-MAX_INDEX.ensures
+    next_refused _ _ _ _ _ _ _ _ _ (chunk_21 _ _ _ _ _ c.if-chunk_len.false c.if-index-gt-MAX_INDEX.true) c.from-then-index-gt-MAX_INDEX.ensures
 
 pub bytes_of-requires : goal.bytes_of-requires
 bytes_of-requires c = c.cut-read.ensures.order
@@ -66,4 +66,4 @@ returns c =
 pub returns-then-not-block_allowed : goal.returns-then-not-block_allowed
 unfolding chunk
 returns-then-not-block_allowed c =
-    next_refused _ _ _ _ _ _ _ _ _ (chunk_8 _ _ _ _ _ c.if-chunk_len.false c.if-index-gt-MAX_INDEX.false _ c.block_allowed.ensures c.if-not-block_allowed.true) c.refusal-then-not-block_allowed.ensures
+    next_refused _ _ _ _ _ _ _ _ _ (chunk_8 _ _ _ _ _ c.if-chunk_len.false c.if-index-gt-MAX_INDEX.false _ c.block_allowed.ensures c.if-not-block_allowed.true) c.from-then-not-block_allowed.ensures

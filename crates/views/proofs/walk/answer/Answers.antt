@@ -17,11 +17,11 @@ walk_runs-need-requires c =
 
 pub returns-then-too_long : goal.returns-then-too_long
 returns-then-too_long c =
-    counted_long _ _ _ _ _ c.walk_runs-need.ensures.out_after _ c.walk_runs-need.ensures.value _ c.too_long.ensures c.if-too_long.true _ c.refusal.ensures
+    counted_long _ _ _ _ _ c.walk_runs-need.ensures.out_after _ c.walk_runs-need.ensures.value _ c.too_long.ensures c.if-too_long.true _ c.from.ensures
 
 pub returns-then-out-need : goal.returns-then-out-need
 returns-then-out-need c =
-    counted_short _ _ _ _ _ c.walk_runs-need.ensures.out_after _ c.walk_runs-need.ensures.value _ c.too_long.ensures c.if-too_long.false c.if-out-need.true _ c.refusal-then-out-need.ensures
+    counted_short _ _ _ _ _ c.walk_runs-need.ensures.out_after _ c.walk_runs-need.ensures.value _ c.too_long.ensures c.if-too_long.false c.if-out-need.true _ c.from-then-out-need.ensures
 
 pub returns : goal.returns
 returns c =
