@@ -9,7 +9,4 @@ use Rattle.listing.specs.Calls.{line_room}
 use Rattle.listing.proofs.lines.put_lines.Given as goal
 
 abbrev pub invariant-loop-i : goal.invariant-loop-i
-invariant-loop-i l = (l.i ≤ l.n) × (length l.out ≡ length l.initial.out) × Puts l.initial.out l.start (lines (records_from l.view 0 l.i)) (l.i * line_room) l.at l.out
-
-abbrev pub decreases-loop-i : goal.decreases-loop-i
-decreases-loop-i l = l.n - l.i
+invariant-loop-i l = Puts l.initial.out l.start (lines (records_from l.view 0 l.i)) (l.i * line_room) l.at l.out
