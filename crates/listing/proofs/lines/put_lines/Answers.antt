@@ -1,5 +1,5 @@
 -- `listing::lines::put_lines` meets its contract. The invariant: the lines of the first i records are put. Assumes nothing.
-use Prim.Native.Nat.{◌/◌, zero-le}
+use Prim.Native.Nat.{◌/◌}
 use native.Mathlib.Omega.{arith}
 use native.Mathlib.Nat.{add-zero}
 use native.Mathlib.Numerals.{add-one}

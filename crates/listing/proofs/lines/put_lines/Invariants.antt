@@ -1,7 +1,5 @@
 -- `listing::lines::put_lines` meets its contract. The invariant: the lines of the first i records are put. Assumes nothing.
-use Prim.Native.Nat.{◌-◌, ◌*◌, ◌≤◌}
-use mathlib.Core.Path.{◌≡◌}
-use lib.ListN.{length}
+use Prim.Native.Nat.{◌*◌}
 use Rattle.codec.specs.Inner.{Puts}
 use Rattle.slices.specs.Record.{records_from}
 use Rattle.listing.specs.Listing.{lines}
