@@ -27,9 +27,5 @@ pub fn bits_of(block: u32) -> u32
     requires { block_allowed block ≡ true }
     ensures { (block ≡ 2 ^ result) × (result < 32) }
 {
-    let mut bits = 16;
-    while (1u32 << bits) < block {
-        bits += 1;
-    }
-    bits
+    block.ilog2()
 }

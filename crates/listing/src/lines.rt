@@ -49,10 +49,8 @@ fn put_lines(out: &mut [u8], start: usize, view: &[u8]) -> usize
 {
     let n = view.len() / RECORD;
     let mut at = start;
-    let mut i = 0;
-    while i < n {
+    for i in 0..n {
         at = put_line(out, at, records::read_record(view, i));
-        i += 1;
     }
     at
 }

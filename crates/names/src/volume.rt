@@ -21,14 +21,9 @@ fn is_volume_byte(b: u8) -> bool
 pub(crate) fn run(text: &[u8]) -> usize
     ensures { (result ≡ volume_run text.now) × (result ≤ length text.now) }
 {
-    let mut i = 0;
-    while i < text.len() {
-        if !is_volume_byte(text[i]) {
-            return i;
-        }
-        i += 1;
-    }
-    i
+    text.iter()
+        .take_while(|byte| is_volume_byte(**byte))
+        .count()
 }
 
 // The volume name at the front of a text.

@@ -30,12 +30,10 @@ fn bounds(list: &[u8], n: usize, pos: &mut [u64], ends: &mut [u32])
     requires n_bound { (n ≤ count list.now) × (n ≤ length pos.old) × (n ≤ length ends.old) }
     ensures { Bounds list.now pos.new ends.new n }
 {
-    let mut i = 0;
-    while i < n {
+    for i in 0..n {
         let first = records::read_pos(list, i);
-        pos[i] = first as u64;
+        pos[i] = u64::from(first);
         ends[i] = first + records::read_len(list, i);
-        i += 1;
     }
 }
 

@@ -25,7 +25,7 @@ pub fn id_on(list: &[u8], top: u16) -> u64
     if top == 0 {
         return 0;
     }
-    records::read_id(list, wide(top) - 1)
+    records::read_id(list, usize::from(top) - 1)
 }
 
 // The size that record i gives to the positions that it covers; 0 where it covers them with zeros.
@@ -84,7 +84,7 @@ pub fn source_of(list: &[u8], top: u16, p: u32) -> Source
     if top == 0 {
         return Source::Nothing;
     }
-    let i = wide(top) - 1;
+    let i = usize::from(top) - 1;
     let d = p - records::read_pos(list, i);
     cover::given(list, i, d)
 }

@@ -11,16 +11,11 @@ fn read_word(text: &[u8], at: usize, word: &[u8]) -> Step
     ensures { result ≡ word_at word.now at (drop at text.now) }
 {
     let mut i = at;
-    let mut k = 0;
-    while k < word.len() {
-        if text.len() <= i {
-            return Step::Stop(i);
-        }
-        if text[i] != word[k] {
+    for &byte in word {
+        if text.len() <= i || text[i] != byte {
             return Step::Stop(i);
         }
         i += 1;
-        k += 1;
     }
     Step::Next { at: i, value: 0 }
 }

@@ -1,12 +1,13 @@
 -- Laws of block sizes: which are allowed, and that the code's test finds them. Assumes nothing.
-use Prim.Native.Nat.{ℕ, ◌+◌, ◌%◌, ◌^◌, ◌<◌, ◌≤◌}
+use Prim.Native.Nat.{ℕ, suc, ◌*◌, ◌%◌, ◌^◌, ◌<◌, ◌≤◌}
 use native.Mathlib.Omega.{arith}
 use native.Mathlib.Decide.{dec_lt}
+use native.Mathlib.Nat.{pow-succ'}
 use lib.Pow.{pow_mono}
-use mathlib.Core.Path.{◌≡◌, refl}
+use mathlib.Core.Path.{◌≡◌, refl, ap, ◌∙◌}
 use mathlib.Core.Logic.{◌↔◌}
 use mathlib.Core.Bool.{Bool, true, false, ◌&&◌, false≢true}
-use lib.Dec.{leb, eqb, lit<}
+use lib.Dec.{leb, eqb}
 use borrow.Author.Tests.{leb-true, le-leb, lt-leb}
 use Rattle.blocks.specs.Blocks.{smallest, largest, power_below, block_allowed}
 use Rattle.blocks.proofs.Laws.Powers.{power_in, power_out, power_test}
@@ -62,24 +63,18 @@ module _ (B : ℕ) where
   unfolding block_allowed
   block_rest h l = rw (le-leb smallest B h, le-leb B largest l) (power_test 24 B)
 
--- ---- the exponent, found from below
+-- ---- the exponent
 
--- 2 ^ k is not above B
-pub record UpTo (B k : ℕ) : Type 0 where
-  pub low : 2 ^ k ≤ B
-  pub few : k < 25
-
-module _ (B : ℕ) (h : block_allowed B ≡ true) where
-  pub up_start : UpTo B 16
-  up_start = record { low = (block_range B h).0; few = lit< tt }
-
-  pub up_more : (k : ℕ) → UpTo B k → 2 ^ k < B → UpTo B (k + 1)
-  up_more k u l = go (allowed_is B h)
-    where
-      go : Allowed B → UpTo B (k + 1)
-      go a = below (dec_lt k a.exponent) (dec_lt a.exponent 25)
-        where
-          below : Dec (k < a.exponent) → Dec (a.exponent < 25) → UpTo B (k + 1)
-          below (yes i) (yes j) = record { low = omega (arith, a.power, pow_mono {i = k + 1} {j = a.exponent} (omega arith)); few = omega arith }
-          below (yes i) (no j) = absurd (omega (arith, a.power, a.high, pow_mono {i = 25} {j = a.exponent} (omega arith)))
-          below (no i) j = absurd (omega (arith, a.power, pow_mono {i = a.exponent} {j = k} (omega arith)))
+-- 2 ^ k is not above B, and the next power is
+pub exponent_is : (B k : ℕ) → block_allowed B ≡ true → 2 ^ k ≤ B → B < 2 * 2 ^ k → B ≡ 2 ^ k
+exponent_is B k h low next = go (allowed_is B h)
+  where
+    go : Allowed B → B ≡ 2 ^ k
+    go a = at (dec_lt k a.exponent) (dec_lt a.exponent k)
+      where
+        at : Dec (k < a.exponent) → Dec (a.exponent < k) → B ≡ 2 ^ k
+        at (yes i) j = absurd (omega (arith, a.power, pow-succ' 2 k, pow_mono {i = suc k} {j = a.exponent} (omega arith)))
+        at (no i) (yes j) = absurd (omega (arith, a.power, pow-succ' 2 a.exponent, pow_mono {i = suc a.exponent} {j = k} (omega arith)))
+        at (no i) (no j) =
+            let e : a.exponent ≡ k = omega arith in
+            a.power ∙ ap (λ (n : ℕ). 2 ^ n) e

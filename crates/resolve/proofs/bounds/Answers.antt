@@ -1,8 +1,6 @@
 -- `resolve::bounds` meets its contract. Assumes nothing.
-use Prim.Native.Nat.{zero-le}
 use native.Mathlib.Omega.{arith}
-use mathlib.Core.Path.{◌≡◌, refl}
-use lib.ListN.{length-set}
+use mathlib.Core.Path.{◌≡◌, refl, ◌∙◌}
 use Rattle.slices.specs.Limits.{chunk}
 use Rattle.slices.specs.Record.{count}
 use Rattle.slices.specs.Passes.{Passes}
@@ -11,7 +9,7 @@ use Rattle.resolve.proofs.Laws.Resolved.{bounds_start, bounds_more}
 use Rattle.resolve.proofs.bounds.Goals as goal
 
 pub loop-i-init : goal.loop-i-init
-loop-i-init c = (zero-le, refl, refl, bounds_start _ _ _)
+loop-i-init c = bounds_start _ _ _
 
 pub read_pos-first-requires : goal.read_pos-first-requires
 unfolding count
@@ -30,14 +28,10 @@ overflow_add-ends c =
 pub loop-i-preserved : goal.loop-i-preserved
 loop-i-preserved c =
     let a = c.read_pos-first.ensures in
-    let b = c.read_len.ensures in (
-      omega arith,
-      simp length-set c.loop-i.invariant.1,
-      simp length-set c.loop-i.invariant.2,
-      bounds_more _ _ _ _ _ _ c.loop-i.invariant.3 (omega (arith, c.loop-i.invariant.1, c.requires.n_bound.1)) (omega (arith, c.loop-i.invariant.2, c.requires.n_bound.2)) a (rw (← a, ← b) refl),
-    )
+    let b = c.read_len.ensures in
+    bounds_more _ _ _ _ _ _ c.loop-i.invariant (omega (arith, c.requires.n_bound.1)) (omega (arith, c.requires.n_bound.2)) (c.from.ensures ∙ a) (rw (← a, ← b) refl)
 
 pub returns : goal.returns
 returns c =
     let e : c.loop-i.i ≡ c.args.n = omega arith in
-    rw e at c.loop-i.invariant.3
+    rw e at c.loop-i.invariant

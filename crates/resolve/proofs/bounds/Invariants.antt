@@ -1,12 +1,6 @@
--- `resolve::bounds` meets its contract. Assumes nothing.
-use Prim.Native.Nat.{◌-◌, ◌≤◌}
-use mathlib.Core.Path.{◌≡◌}
-use lib.ListN.{length}
+-- `resolve::bounds` meets its contract. The invariant: those of the first i records are noted. Assumes nothing.
 use Rattle.resolve.specs.Sweep.{Bounds}
 use Rattle.resolve.proofs.bounds.Given as goal
 
 abbrev pub invariant-loop-i : goal.invariant-loop-i
-invariant-loop-i l = (l.i ≤ l.n) × (length l.pos ≡ length l.initial.pos) × (length l.ends ≡ length l.initial.ends) × Bounds l.list l.pos l.ends l.i
-
-abbrev pub decreases-loop-i : goal.decreases-loop-i
-decreases-loop-i l = l.n - l.i
+invariant-loop-i l = Bounds l.list l.pos l.ends l.i

@@ -1,5 +1,5 @@
 -- `listing::lines::put_lines` meets its contract. The invariant: the lines of the first i records are put. Assumes nothing.
-use Prim.Native.Nat.{◌/◌, zero-le}
+use Prim.Native.Nat.{◌/◌}
 use native.Mathlib.Omega.{arith}
 use native.Mathlib.Nat.{add-zero}
 use native.Mathlib.Numerals.{add-one}
@@ -19,25 +19,19 @@ use Rattle.listing.proofs.lines.put_lines.Goals as goal
 pub loop-i-init : goal.loop-i-init
 unfolding records_from groups_from lines flat_map
 loop-i-init c =
-    (zero-le, refl, record { leaves = sym (splice-nil _ _); ends = sym (add-zero _); fits = omega arith })
+    record { leaves = sym (splice-nil _ _); ends = sym (add-zero _); fits = omega arith }
 
 pub loop-i-preserved : goal.loop-i-preserved
 loop-i-preserved c =
     let a = c.args in
     let p : Puts c.loop-i.out c.loop-i.at (line (record_at a.view.now c.loop-i.i)) line_room c.put_line-at.result c.put_line-at.new.out =
     rw (← c.read_record.ensures) (record { leaves = c.put_line-at.ensures.2; ends = c.put_line-at.ensures.0; fits = omega arith }) in
-    let q = puts_then c.loop-i.invariant.2 p (omega arith) in (
-      omega arith,
-      omega arith,
-      rw (add-one, lines_more a.view.now c.loop-i.i) (puts_as _ q refl (omega arith)),
-    )
-
-pub shape_of-out : goal.shape_of-out
-shape_of-out c = c.loop-i.invariant.1
+    let q = puts_then c.loop-i.invariant p (omega arith) in
+    rw (add-one, lines_more a.view.now c.loop-i.i) (puts_as _ q refl (omega arith))
 
 pub returns : goal.returns
 unfolding records count
 returns c =
     let e : c.loop-i.i ≡ length c.args.view.now / record_size = omega arith in
-    let p = rw e at c.loop-i.invariant.2 in
+    let p = rw e at c.loop-i.invariant in
     (p.ends, p.leaves)

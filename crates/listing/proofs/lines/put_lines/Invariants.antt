@@ -1,7 +1,5 @@
 -- `listing::lines::put_lines` meets its contract. The invariant: the lines of the first i records are put. Assumes nothing.
-use Prim.Native.Nat.{◌-◌, ◌*◌, ◌≤◌}
-use mathlib.Core.Path.{◌≡◌}
-use lib.ListN.{length}
+use Prim.Native.Nat.{◌*◌}
 use Rattle.codec.specs.Inner.{Puts}
 use Rattle.slices.specs.Record.{records_from}
 use Rattle.listing.specs.Listing.{lines}
@@ -9,7 +7,4 @@ use Rattle.listing.specs.Calls.{line_room}
 use Rattle.listing.proofs.lines.put_lines.Given as goal
 
 abbrev pub invariant-loop-i : goal.invariant-loop-i
-invariant-loop-i l = (l.i ≤ l.n) × (length l.out ≡ length l.initial.out) × Puts l.initial.out l.start (lines (records_from l.view 0 l.i)) (l.i * line_room) l.at l.out
-
-abbrev pub decreases-loop-i : goal.decreases-loop-i
-decreases-loop-i l = l.n - l.i
+invariant-loop-i l = Puts l.initial.out l.start (lines (records_from l.view 0 l.i)) (l.i * line_room) l.at l.out

@@ -8,17 +8,17 @@ use Rattle.slices.specs.Record.{record_at, count}
 use Rattle.slices.proofs.Laws.Record.{records_at}
 use Rattle.resolve.proofs.Laws.Resolved.{source_zero, source_some}
 use Rattle.resolve.proofs.tops.source_of.Goals as goal
-use Rattle.resolve.proofs.tops.source_of.Goals.{After-wide-i}
+use Rattle.resolve.proofs.tops.source_of.Goals.{After-from-i}
 
 -- the record's number, from 0
-is : (c : After-wide-i) → c.args.top ≡ suc (c.wide-i.result - 1)
-is c = omega (arith, c.wide-i.ensures, c.if-top-eq0.false)
+is : (c : After-from-i) → c.args.top ≡ suc (c.from-i.result - 1)
+is c = omega (arith, c.from-i.ensures, c.if-top-eq0.false)
 
 -- it covers the position
-covers : (c : After-wide-i)
-    → (c.wide-i.result - 1 < count c.args.list.now)
-    × ((record_at c.args.list.now (c.wide-i.result - 1)).pos ≤ c.args.p)
-    × (c.args.p + 1 ≤ (record_at c.args.list.now (c.wide-i.result - 1)).pos + (record_at c.args.list.now (c.wide-i.result - 1)).len)
+covers : (c : After-from-i)
+    → (c.from-i.result - 1 < count c.args.list.now)
+    × ((record_at c.args.list.now (c.from-i.result - 1)).pos ≤ c.args.p)
+    × (c.args.p + 1 ≤ (record_at c.args.list.now (c.from-i.result - 1)).pos + (record_at c.args.list.now (c.from-i.result - 1)).len)
 covers c = c.requires.on_top.covering _ (is c)
 
 pub returns-then-top-eq0 : goal.returns-then-top-eq0
@@ -29,14 +29,14 @@ unfolding count
 read_pos-requires c = omega (arith, (covers c).0)
 
 pub overflow_sub-d : goal.overflow_sub-d
-overflow_sub-d c = omega (arith, (covers (goal.at.overflow_sub-d c).After-wide-i).1, c.read_pos.ensures)
+overflow_sub-d c = omega (arith, (covers (goal.at.overflow_sub-d c).After-from-i).1, c.read_pos.ensures)
 
 pub given-requires : goal.given-requires
 unfolding count
 given-requires c =
-    record { record_size_in_bounds = omega (arith, (covers (goal.at.given-requires c).After-wide-i).0); passes = records_at Passes _ c.requires.all _ (covers (goal.at.given-requires c).After-wide-i).0; d_bound = omega (arith, (covers (goal.at.given-requires c).After-wide-i).1, (covers (goal.at.given-requires c).After-wide-i).2, c.read_pos.ensures) }
+    record { record_size_in_bounds = omega (arith, (covers (goal.at.given-requires c).After-from-i).0); passes = records_at Passes _ c.requires.all _ (covers (goal.at.given-requires c).After-from-i).0; d_bound = omega (arith, (covers (goal.at.given-requires c).After-from-i).1, (covers (goal.at.given-requires c).After-from-i).2, c.read_pos.ensures) }
 
 pub returns : goal.returns
 returns c =
-    let e : (record_at c.args.list.now (c.wide-i.result - 1)).pos + (c.args.p - c.read_pos.result) ≡ c.args.p = omega (arith, (covers (goal.at.returns c).After-wide-i).1, c.read_pos.ensures) in
-    c.given.ensures ∙ ap (given (record_at c.args.list.now (c.wide-i.result - 1))) e ∙ sym (source_some _ _ _ _ c.requires.on_top (is (goal.at.returns c).After-wide-i))
+    let e : (record_at c.args.list.now (c.from-i.result - 1)).pos + (c.args.p - c.read_pos.result) ≡ c.args.p = omega (arith, (covers (goal.at.returns c).After-from-i).1, c.read_pos.ensures) in
+    c.given.ensures ∙ ap (given (record_at c.args.list.now (c.from-i.result - 1))) e ∙ sym (source_some _ _ _ _ c.requires.on_top (is (goal.at.returns c).After-from-i))
