@@ -13,10 +13,7 @@ use slices::{CHUNK, RECORD, records};
 fn lower(pos: u32, len: u32, low: u32) -> u32
     ensures { result ≡ cond (eqb len 0) low (min pos low) }
 {
-    if len == 0 {
-        return low;
-    }
-    if pos < low { pos } else { low }
+    if len == 0 { low } else { pos.min(low) }
 }
 
 // The higher of a position and the one after a record's last, if the record covers one.
@@ -25,10 +22,10 @@ fn higher(pos: u32, len: u32, high: u32) -> u32
     ensures { result ≡ cond (eqb len 0) high (max (pos + len) high) }
 {
     if len == 0 {
-        return high;
+        high
+    } else {
+        (pos + len).max(high)
     }
-    let end = pos + len;
-    if high < end { end } else { high }
 }
 
 // From the first position that the records cover up to the last; none where they cover nothing.
@@ -36,11 +33,9 @@ pub(crate) fn span(list: &[u8]) -> Span
     requires { All Passes (records list.now) }
     ensures { Ends (records list.now) result.from result.end }
 {
-    let mut i = list.len() / RECORD;
     let mut low = CHUNK;
     let mut high = 0;
-    while 0 < i {
-        i -= 1;
+    for i in (0..list.len() / RECORD).rev() {
         let pos = records::read_pos(list, i);
         let len = records::read_len(list, i);
         low = lower(pos, len, low);

@@ -9,8 +9,5 @@ use slices::ids;
 pub(crate) fn in_use(list: &[u8], id: u64) -> bool
     ensures { result ≡ id_in_use id (records list.now) }
 {
-    if id == 0 {
-        return true;
-    }
-    ids::stands(list, id)
+    id == 0 || ids::stands(list, id)
 }

@@ -28,30 +28,22 @@ fn comes_next(p: Piece, place: u32, k: u32, first: u32, from: u32, n: u32) -> bo
     requires { from + n ≤ 2 ^ 30 }
     ensures { result ≡ true → (formed first from n p ≡ true) × (p.place ≡ place) × (chunk_of from p ≡ k) }
 {
-    if pieces::is_formed(p, first, from, n) {
-        if p.place == place {
-            return (from + p.place) / CHUNK == k;
-        }
-        return false;
-    }
-    false
+    pieces::is_formed(p, first, from, n) && p.place == place && (from + p.place) / CHUNK == k
 }
 
 // Whether piece `number` of a plan is such a piece. It spares a list that is not needed, and nothing is promised of it.
 fn is_next(plan: &[u8], number: usize, place: u32, k: u32, first: u32, from: u32, n: u32) -> bool
     requires { (number ≤ length plan.now / piece_size) × (from + n ≤ 2 ^ 30) }
 {
-    if number < plan.len() / PIECE {
-        return comes_next(
+    number < plan.len() / PIECE
+        && comes_next(
             pieces::read_piece(plan, number * PIECE),
             place,
             k,
             first,
             from,
             n,
-        );
-    }
-    false
+        )
 }
 
 // Those of chunk k, from piece `number` and `place` on, over its resolved list.

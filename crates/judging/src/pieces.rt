@@ -37,32 +37,14 @@ pub(crate) fn read_piece(plan: &[u8], at: usize) -> Piece
 fn some_set(p: Piece) -> bool
     ensures { result ≡ not (eqb p.id 0 && (eqb p.block 0 && (eqb p.length 0 && eqb p.at 0))) }
 {
-    if p.id != 0 {
-        return true;
-    }
-    if p.block != 0 {
-        return true;
-    }
-    if p.length != 0 {
-        return true;
-    }
-    p.at != 0
+    p.id != 0 || p.block != 0 || p.length != 0 || p.at != 0
 }
 
 // Whether the mark is known, and numbers stand beside it that may.
 fn is_marked(p: Piece) -> bool
     ensures { result ≡ not (unknown_mark p) && not (number_set p) }
 {
-    if p.mark == OBJECT {
-        return true;
-    }
-    if p.mark == ZEROS {
-        if some_set(p) {
-            return false;
-        }
-        return true;
-    }
-    false
+    p.mark == OBJECT || (p.mark == ZEROS && !some_set(p))
 }
 
 // Whether a piece is one of a read of n bytes from `from` on, as far as its own numbers tell.
@@ -70,18 +52,9 @@ pub(crate) fn is_formed(p: Piece, first: u32, from: u32, n: u32) -> bool
     requires { from + n ≤ 2 ^ 30 }
     ensures { result ≡ formed first from n p }
 {
-    if p.len == 0 {
+    if p.len == 0 || !is_marked(p) || (n as u64) < p.place as u64 + p.len as u64 {
         return false;
     }
-    if is_marked(p) {
-        if (n as u64) < p.place as u64 + p.len as u64 {
-            return false;
-        }
-        let at = from + p.place;
-        if p.index as u64 != first as u64 + (at / CHUNK) as u64 {
-            return false;
-        }
-        return p.len <= CHUNK - at % CHUNK;
-    }
-    false
+    let at = from + p.place;
+    p.index as u64 == first as u64 + (at / CHUNK) as u64 && p.len <= CHUNK - at % CHUNK
 }

@@ -26,19 +26,11 @@ pub(crate) struct Met {
 fn in_object(p: Piece, d: u32, i: u64, b: u32, l: u32, t: u32) -> bool
     ensures { result ≡ same_location (onward (location_of p) d) (locations.In i b l t) }
 {
-    if p.mark == ZEROS {
-        return false;
-    }
-    if p.id != i {
-        return false;
-    }
-    if p.block != b {
-        return false;
-    }
-    if p.length != l {
-        return false;
-    }
-    p.at as u64 + d as u64 == t as u64
+    p.mark != ZEROS
+        && p.id == i
+        && p.block == b
+        && p.length == l
+        && p.at as u64 + d as u64 == t as u64
 }
 
 // Whether byte d of a piece lies where position q does, on top of which lies the record `top`, counted from 1.
@@ -71,10 +63,8 @@ fn seek(marks: &[u32], m: usize, near: usize, q: u32) -> usize
     if q < marks[near + 1] {
         return near;
     }
-    if near + 2 <= m {
-        if q < marks[near + 2] {
-            return near + 1;
-        }
+    if near + 2 <= m && q < marks[near + 2] {
+        return near + 1;
     }
     segments::find(marks, m, q)
 }

@@ -22,11 +22,8 @@ pub(crate) fn first_misformed(plan: &[u8], first: u32, from: u32, n: u32) -> usi
     ensures result_value { result < length plan.now / piece_size → formed first from n (piece_at plan.now result) ≡ false }
 {
     let whole = plan.len() / PIECE;
-    let mut i = 0;
-    while i < whole {
-        if pieces::is_formed(pieces::read_piece(plan, i * PIECE), first, from, n) {
-            i += 1;
-        } else {
+    for i in 0..whole {
+        if !pieces::is_formed(pieces::read_piece(plan, i * PIECE), first, from, n) {
             return i;
         }
     }
@@ -55,21 +52,16 @@ fn sift_on(
     ensures { Sifts from block k (records list.now) plan.now limit result }
 {
     let mut near = 0;
-    let mut i = 0;
-    while i < limit {
+    for i in 0..limit {
         let p = pieces::read_piece(plan, i * PIECE);
         let at = from + p.place;
         if at / CHUNK == k {
             let q = at % CHUNK;
             let met = places::meet(list, marks, tops, m, near, q, q + p.len, block, bits, p);
             near = met.segment;
-            if met.same {
-                i += 1;
-            } else {
+            if !met.same {
                 return i;
             }
-        } else {
-            i += 1;
         }
     }
     limit

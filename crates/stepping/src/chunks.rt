@@ -20,13 +20,7 @@ fn begins(lists: &[u8], lengths: &[u64], k: usize) -> usize
     requires { (total lengths.now ≡ length lists.now) × (k < length lengths.now) }
     ensures { Behind lists.now lengths.now k result }
 {
-    let mut at = 0;
-    let mut i = 0;
-    while i < k {
-        at += lengths[i] as usize;
-        i += 1;
-    }
-    at
+    lengths[..k].iter().sum::<u64>() as usize
 }
 
 // The piece that starts at position p, counted from the first chunk's beginning, and ends with its chunk, or at `end`.

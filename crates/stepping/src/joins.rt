@@ -35,13 +35,7 @@ fn goes_on(list: &[u8], id: u64, a: u16, p: u32, b: u16, e: u32, block: u32) -> 
     requires on_top_2 { OnTop list.now b e (e + 1) }
     ensures { result ≡ next_location (onward (location_at block (records list.now) p) (e - p - 1)) (location_at block (records list.now) e) }
 {
-    if tops::id_on(list, b) != id {
-        return false;
-    }
-    if id == 0 {
-        return true;
-    }
-    lies_behind(list, a, p, b, e, block)
+    tops::id_on(list, b) == id && (id == 0 || lies_behind(list, a, p, b, e, block))
 }
 
 // Where the maximal run of locations, of the positions from p up to `end`, that starts at p ends; segment k holds p.

@@ -54,15 +54,9 @@ module _ (p : Piece) where
   object_marked h = rw (eq-eqb p.mark object_mark h, ne_eqb p.mark zeros_mark (λ z. omega (arith, h, z)))
 
   module _ (o : p.mark ≢ object_mark) (z : p.mark ≡ zeros_mark) (t : Bool) (h : t ≡ not (eqb p.id 0 && (eqb p.block 0 && (eqb p.length 0 && eqb p.at 0)))) where
-    zeros_marked : not t ≡ (not (unknown_mark p) && not (number_set p))
+    pub zeros_marked : not t ≡ (not (unknown_mark p) && not (number_set p))
     unfolding unknown_mark number_set
     zeros_marked = rw (ne_eqb p.mark object_mark o, eq-eqb p.mark zeros_mark z, ← h)
-
-    pub zeros_set : t ≡ true → false ≡ (not (unknown_mark p) && not (number_set p))
-    zeros_set e = sym (ap not e) ∙ zeros_marked
-
-    pub zeros_bare : t ≡ false → true ≡ (not (unknown_mark p) && not (number_set p))
-    zeros_bare e = sym (ap not e) ∙ zeros_marked
 
   pub not_marked : p.mark ≢ object_mark → p.mark ≢ zeros_mark → false ≡ (not (unknown_mark p) && not (number_set p))
   unfolding unknown_mark number_set

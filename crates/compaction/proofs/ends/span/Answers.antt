@@ -16,7 +16,7 @@ use Rattle.compaction.proofs.ends.span.Goals as goal
 
 pub loop-i-init : goal.loop-i-init
 unfolding count chunk
-loop-i-init c = (le_refl _, lowest_none _ _ (le_refl _), highest_none _ _ (le_refl _))
+loop-i-init c = (lowest_none _ _ (le_refl _), highest_none _ _ (le_refl _))
 
 pub higher-high-requires : goal.higher-high-requires
 unfolding count
@@ -27,22 +27,21 @@ pub loop-i-preserved : goal.loop-i-preserved
 unfolding count
 loop-i-preserved c =
     let inv = c.loop-i.invariant in (
-      omega arith,
-      c.lower-low.ensures ∙ rw (c.read_len-len.ensures, c.read_pos-pos.ensures) (lowest_back _ _ _ c.loop-i-test.true inv.0 inv.1),
-      c.higher-high.ensures ∙ rw (c.read_len-len.ensures, c.read_pos-pos.ensures) (highest_back _ _ _ c.loop-i-test.true inv.0 inv.2),
+      c.lower-low.ensures ∙ rw (c.read_len-len.ensures, c.read_pos-pos.ensures) (lowest_back _ _ _ c.loop-i-test.true c.loop-i.auto.i inv.0),
+      c.higher-high.ensures ∙ rw (c.read_len-len.ensures, c.read_pos-pos.ensures) (highest_back _ _ _ c.loop-i-test.true c.loop-i.auto.i inv.1),
     )
 
 pub returns-then-low-eq-CHUNK : goal.returns-then-low-eq-CHUNK
 unfolding chunk
 returns-then-low-eq-CHUNK c =
     let e : c.loop-i.i ≡ 0 = omega arith in
-    ends_none _ (sym (c.loop-i.invariant.1 ∙ rw e (ap lowest (left_all _))) ∙ c.if-low-eq-CHUNK.true)
+    ends_none _ (sym (c.loop-i.invariant.0 ∙ rw e (ap lowest (left_all _))) ∙ c.if-low-eq-CHUNK.true)
 
 pub returns : goal.returns
 unfolding chunk
 returns c =
     let rs = records c.args.list.now in
     let e : c.loop-i.i ≡ 0 = omega arith in
-    let low : c.loop-i.low ≡ lowest rs = c.loop-i.invariant.1 ∙ rw e (ap lowest (left_all _)) in
-    let high : c.loop-i.high ≡ highest rs = c.loop-i.invariant.2 ∙ rw e (ap highest (left_all _)) in
+    let low : c.loop-i.low ≡ lowest rs = c.loop-i.invariant.0 ∙ rw e (ap lowest (left_all _)) in
+    let high : c.loop-i.high ≡ highest rs = c.loop-i.invariant.1 ∙ rw e (ap highest (left_all _)) in
     rw (low, high) (ends_some rs c.requires (λ k. c.if-low-eq-CHUNK.false (low ∙ k)))

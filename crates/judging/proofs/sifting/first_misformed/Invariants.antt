@@ -1,10 +1,6 @@
 -- `judging::sifting::first_misformed` meets its contract. The invariant: the pieces before i are formed. Assumes nothing.
-use Prim.Native.Nat.{◌-◌, ◌≤◌}
 use Rattle.judging.specs.Inner.{Formed}
 use Rattle.judging.proofs.sifting.first_misformed.Given as goal
 
 abbrev pub invariant-loop-i : goal.invariant-loop-i
-invariant-loop-i l = Formed l.first l.from l.n l.plan l.i × (l.i ≤ l.whole)
-
-abbrev pub decreases-loop-i : goal.decreases-loop-i
-decreases-loop-i l = l.whole - l.i
+invariant-loop-i l = Formed l.first l.from l.n l.plan l.i
