@@ -5,10 +5,11 @@ use Rattle.slices.specs.Limits.{chunk}
 use Rattle.judging.proofs.Laws.Forms.{form_read}
 use Rattle.judging.proofs.Laws.Places.{some_segment}
 use Rattle.judging.proofs.Laws.Sifting.{sift_other, sift_lies, sift_strays, sift_end}
+use Rattle.resolve.proofs.Laws.Ready.{ready_of}
 use Rattle.judging.proofs.sifting.sift_on.Goals as goal
 
 pub loop-i-init : goal.loop-i-init
-loop-i-init c = (λ j l. absurd (omega arith), some_segment _ _ _ _ c.requires.ready.resolved, omega arith)
+loop-i-init c = (λ j l. absurd (omega arith), some_segment _ _ _ _ (ready_of c.args.r.now.ready).resolved, omega arith)
 
 pub overflow_mul-i : goal.overflow_mul-i
 overflow_mul-i c = omega (arith, c.loop-i-test.true, c.requires.limit_in_bounds.0, c.well_formed)
@@ -29,7 +30,7 @@ pub meet-met-requires : goal.meet-met-requires
 unfolding chunk
 meet-met-requires c =
     let f = form_read _ _ _ _ _ _ c.requires.limit_in_bounds.1 c.loop-i-test.true c.read_piece-p.ensures in
-    record { ready = c.requires.ready; q_lt_end = (omega (arith, f.some), f.fits, c.loop-i.invariant.1, c.requires.n_bound.1) }
+    record { q_lt_end = (omega (arith, f.some), f.fits, c.loop-i.invariant.1, c.requires.n_bound.1) }
 
 pub overflow_add-i : goal.overflow_add-i
 overflow_add-i c = omega (arith, c.loop-i-test.true, c.ranges.limit)

@@ -5,7 +5,7 @@ use Rattle.judging.proofs.Laws.Sifting.{LieBefore}
 use Rattle.judging.proofs.sifting.sift_on.Given as goal
 
 abbrev pub invariant-loop-i : goal.invariant-loop-i
-invariant-loop-i l = LieBefore l.from l.block l.k (records l.list) l.plan l.i × (l.near < l.m) × (l.i ≤ l.limit)
+invariant-loop-i l = LieBefore l.from l.block l.k (records l.r.list.now) l.plan l.i × (l.near < l.r.segments) × (l.i ≤ l.limit)
 
 abbrev pub decreases-loop-i : goal.decreases-loop-i
 decreases-loop-i l = l.limit - l.i
