@@ -13,6 +13,7 @@ ghost use Rattle.files.specs.Inner.{Resolvable, bytes_of};
 
 use crate::parts;
 use plans::walk;
+use resolve::segments::Resolved;
 
 // Writes the pieces of the k-th chunk's positions into a buffer that has room for them, from `start` on, or only counts their bytes; where they end.
 fn walk_list(
@@ -43,10 +44,16 @@ fn walk_list(
     if part.end <= part.from {
         return start;
     }
-    let m = resolve::resolve(list, marks, tops, pos, ends, order, spare);
+    let segments = resolve::resolve(list, marks, tops, pos, ends, order, spare);
     let front = (first + k) as u64 * 4294967296 + parts::places_before(from, k) as u64;
+    let r = Resolved {
+        list,
+        marks,
+        tops,
+        segments,
+    };
     walk::walk_pieces(
-        list, marks, tops, m, part.from, part.end, block, bits, front, write, out, start,
+        &r, part.from, part.end, block, bits, front, write, out, start,
     )
 }
 

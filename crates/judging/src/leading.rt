@@ -1,7 +1,6 @@
 // The pieces at the front of a plan that stand in order and lie where they say: of most plans that is all of them.
 ghost use Rattle.std.specs.Prelude.{◌≡◌, true, false, ◌+◌, ◌*◌, ◌/◌, ◌^◌, ◌<◌, ◌≤◌, length};
 ghost use Rattle.slices.specs.Record.{records};
-ghost use Rattle.resolve.specs.Resolved.{Ready};
 ghost use Rattle.coverage.specs.Inner.{InOrder};
 ghost use Rattle.plans.specs.Inner.{Shifts};
 ghost use Rattle.plans.specs.Piece.{piece_size};
@@ -14,6 +13,7 @@ ghost use Rattle.judging.specs.Inner.{formed, chunk_of, Led, Leads};
 
 use crate::{pieces, places};
 use plans::{PIECE, Piece};
+use resolve::segments::Resolved;
 use slices::CHUNK;
 
 // How many pieces they are, and the place behind the last of them.
@@ -48,10 +48,7 @@ fn is_next(plan: &[u8], number: usize, place: u32, k: u32, first: u32, from: u32
 
 // Those of chunk k, from piece `number` and `place` on, over its resolved list.
 fn lead_on(
-    list: &[u8],
-    marks: &[u32],
-    tops: &[u16],
-    m: usize,
+    r: &Resolved,
     k: u32,
     first: u32,
     from: u32,
@@ -61,10 +58,9 @@ fn lead_on(
     plan: &[u8],
     start: Lead,
 ) -> Lead
-    requires ready { Ready list.now marks.now tops.now m }
     requires n_bound { (from + n ≤ 2 ^ 30) × Shifts block bits }
     requires number_in_bounds { (start.number ≤ length plan.now / piece_size) × (start.place ≤ n) × InOrder plan.now start.number start.place }
-    ensures { Leads first from n block k (records list.now) plan.now start.number result.number result.place }
+    ensures { Leads first from n block k (records r.now.list.now) plan.now start.number result.number result.place }
 {
     let whole = plan.len() / PIECE;
     let mut number = start.number;
@@ -74,7 +70,7 @@ fn lead_on(
         let p = pieces::read_piece(plan, number * PIECE);
         if comes_next(p, place, k, first, from, n) {
             let q = (from + place) % CHUNK;
-            let met = places::meet(list, marks, tops, m, near, q, q + p.len, block, bits, p);
+            let met = places::meet(r, near, q, q + p.len, block, bits, p);
             near = met.segment;
             if met.same {
                 number += 1;
@@ -113,10 +109,14 @@ fn lead_list(
     ensures { Leads first from n block k (records list.now) plan.now start.number result.number result.place }
 {
     if is_next(plan, start.number, start.place, k, first, from, n) {
-        let m = resolve::resolve(list, marks, tops, pos, ends, order, spare);
-        return lead_on(
-            list, marks, tops, m, k, first, from, n, block, bits, plan, start,
-        );
+        let segments = resolve::resolve(list, marks, tops, pos, ends, order, spare);
+        let r = Resolved {
+            list,
+            marks,
+            tops,
+            segments,
+        };
+        return lead_on(&r, k, first, from, n, block, bits, plan, start);
     }
     start
 }

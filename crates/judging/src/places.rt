@@ -4,7 +4,7 @@ ghost use Rattle.codec.specs.All.{All};
 ghost use Rattle.slices.specs.Limits.{chunk};
 ghost use Rattle.slices.specs.Passes.{Passes};
 ghost use Rattle.slices.specs.Record.{records};
-ghost use Rattle.resolve.specs.Resolved.{OnTop, Ready, Holds};
+ghost use Rattle.resolve.specs.Resolved.{OnTop, Holds};
 ghost use Rattle.plans.specs.Inner.{Shifts};
 ghost use Rattle.plans.specs.Location.{location_at, onward};
 ghost use Rattle.plans.specs.Piece.{location_of};
@@ -13,7 +13,8 @@ ghost use Rattle.judging.specs.Judge.{same_location};
 ghost use Rattle.judging.specs.Inner.{LiesAt, StraysAt};
 
 use plans::{Location, Piece, ZEROS, locations, reach};
-use resolve::{segments, tops};
+use resolve::segments::Resolved;
+use resolve::tops;
 
 // Whether a piece's bytes lie where it says, and a segment from which to look for the next piece.
 #[derive(Clone, Copy)]
@@ -52,21 +53,20 @@ fn same_at(list: &[u8], top: u16, q: u32, block: u32, p: Piece, d: u32) -> bool
 }
 
 // The segment that holds q. The pieces of most plans follow each other, so that it is often `near` or the one behind it.
-fn seek(marks: &[u32], m: usize, near: usize, q: u32) -> usize
-    requires m_in_bounds { (m < length marks.now) × (near < m) }
-    requires marks_bound { (get_or marks.now 0 0 ≤ q) × (q < get_or marks.now m 0) }
-    ensures { Holds marks.now m result q }
+fn seek(r: &Resolved, near: usize, q: u32) -> usize
+    requires { (near < r.now.segments) × (q < chunk) }
+    ensures { Holds r.now.marks.now r.now.segments result q }
 {
-    if q < marks[near] {
-        return segments::find(marks, m, q);
+    if q < r.marks[near] {
+        return r.find(q);
     }
-    if q < marks[near + 1] {
+    if q < r.marks[near + 1] {
         return near;
     }
-    if near + 2 <= m && q < marks[near + 2] {
+    if near + 2 <= r.segments && q < r.marks[near + 2] {
         return near + 1;
     }
-    segments::find(marks, m, q)
+    r.find(q)
 }
 
 // The segment that holds e, where segment k ends at e or holds it.
@@ -82,10 +82,7 @@ fn following(marks: &[u32], k: usize, e: u32) -> usize
 
 // Whether the positions from q up to `end` lie where a piece says, from its first byte on.
 pub(crate) fn meet(
-    list: &[u8],
-    marks: &[u32],
-    tops: &[u16],
-    m: usize,
+    r: &Resolved,
     near: usize,
     q: u32,
     end: u32,
@@ -93,23 +90,22 @@ pub(crate) fn meet(
     bits: u32,
     p: Piece,
 ) -> Met
-    requires ready { Ready list.now marks.now tops.now m }
-    requires q_lt_end { (q < end) × (end ≤ chunk) × (near < m) × Shifts block bits }
-    ensures lies_at { (result.same ≡ true → LiesAt block (records list.now) q (end - q) (location_of p)) × (result.same ≡ false → StraysAt block (records list.now) q (end - q) (location_of p)) }
-    ensures segment_lt_m { result.segment < m }
+    requires q_lt_end { (q < end) × (end ≤ chunk) × (near < r.now.segments) × Shifts block bits }
+    ensures lies_at { (result.same ≡ true → LiesAt block (records r.now.list.now) q (end - q) (location_of p)) × (result.same ≡ false → StraysAt block (records r.now.list.now) q (end - q) (location_of p)) }
+    ensures segment_lt_m { result.segment < r.now.segments }
 {
-    let mut segment = seek(marks, m, near, q);
+    let mut segment = seek(r, near, q);
     let mut at = q;
     loop {
-        if same_at(list, tops[segment], at, block, p, at - q) {
-            at = reach::same_block_to(list, marks, tops, m, segment, at, end, block, bits);
+        if same_at(r.list, r.tops[segment], at, block, p, at - q) {
+            at = reach::same_block_to(r, segment, at, end, block, bits);
             if end <= at {
                 return Met {
                     same: true,
                     segment,
                 };
             }
-            segment = following(marks, segment, at);
+            segment = following(r.marks, segment, at);
         } else {
             return Met {
                 same: false,

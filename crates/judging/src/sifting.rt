@@ -1,7 +1,6 @@
 // The first piece of a plan that is wrong in itself, in whatever order the pieces stand: list by list, so that each is resolved once.
 ghost use Rattle.std.specs.Prelude.{◌≡◌, false, ◌+◌, ◌*◌, ◌/◌, ◌^◌, ◌<◌, ◌≤◌, length};
 ghost use Rattle.slices.specs.Record.{records};
-ghost use Rattle.resolve.specs.Resolved.{Ready};
 ghost use Rattle.plans.specs.Inner.{Shifts};
 ghost use Rattle.plans.specs.Piece.{piece_size};
 ghost use Rattle.codec.specs.All.{All};
@@ -13,6 +12,7 @@ ghost use Rattle.judging.specs.Inner.{piece_at, formed, Formed, Sifts, Sifted};
 use crate::{pieces, places};
 use files::parts;
 use plans::PIECE;
+use resolve::segments::Resolved;
 use slices::CHUNK;
 
 // The number of the first piece whose own numbers tell that it is wrong; as many as there are whole ones where there is none.
@@ -33,10 +33,7 @@ pub(crate) fn first_misformed(plan: &[u8], first: u32, from: u32, n: u32) -> usi
 // Of the pieces below `limit`, all of them formed, the first of chunk k that does not lie in its resolved list where it says; `limit` where there is
 // none.
 fn sift_on(
-    list: &[u8],
-    marks: &[u32],
-    tops: &[u16],
-    m: usize,
+    r: &Resolved,
     k: u32,
     first: u32,
     from: u32,
@@ -46,10 +43,9 @@ fn sift_on(
     plan: &[u8],
     limit: usize,
 ) -> usize
-    requires ready { Ready list.now marks.now tops.now m }
     requires n_bound { (from + n ≤ 2 ^ 30) × Shifts block bits }
     requires limit_in_bounds { (limit ≤ length plan.now / piece_size) × Formed first from n plan.now limit }
-    ensures { Sifts from block k (records list.now) plan.now limit result }
+    ensures { Sifts from block k (records r.now.list.now) plan.now limit result }
 {
     let mut near = 0;
     for i in 0..limit {
@@ -57,7 +53,7 @@ fn sift_on(
         let at = from + p.place;
         if at / CHUNK == k {
             let q = at % CHUNK;
-            let met = places::meet(list, marks, tops, m, near, q, q + p.len, block, bits, p);
+            let met = places::meet(r, near, q, q + p.len, block, bits, p);
             near = met.segment;
             if !met.same {
                 return i;
@@ -94,10 +90,14 @@ fn sift_list(
     if part.end <= part.from {
         return limit;
     }
-    let m = resolve::resolve(list, marks, tops, pos, ends, order, spare);
-    sift_on(
-        list, marks, tops, m, k, first, from, n, block, bits, plan, limit,
-    )
+    let segments = resolve::resolve(list, marks, tops, pos, ends, order, spare);
+    let r = Resolved {
+        list,
+        marks,
+        tops,
+        segments,
+    };
+    sift_on(&r, k, first, from, n, block, bits, plan, limit)
 }
 
 // The same over all lists.

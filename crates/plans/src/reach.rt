@@ -4,7 +4,7 @@ ghost use Rattle.codec.specs.All.{All};
 ghost use Rattle.slices.specs.Limits.{chunk};
 ghost use Rattle.slices.specs.Passes.{Passes};
 ghost use Rattle.slices.specs.Record.{records};
-ghost use Rattle.resolve.specs.Resolved.{OnTop, Ready, Holds};
+ghost use Rattle.resolve.specs.Resolved.{OnTop, Holds};
 ghost use Rattle.resolve.specs.Tops.{id_on};
 ghost use Rattle.runs.specs.Inner.{Unbroken, Leads};
 ghost use Rattle.runs.specs.Runs.{Stops};
@@ -12,7 +12,8 @@ ghost use Rattle.plans.specs.Inner.{Shifts};
 ghost use Rattle.plans.specs.Location.{location_at, next_location, onward};
 
 use crate::{locations, shifts};
-use resolve::{Reached, segments, tops};
+use resolve::segments::Resolved;
+use resolve::{Reached, tops};
 
 // A position behind p, and at most e, up to which the locations go on from p, where the record `top` lies on top of the positions up to e. In front
 // of e it is the end of a block.
@@ -30,26 +31,16 @@ pub fn same_top_to(list: &[u8], top: u16, p: u32, e: u32, block: u32, bits: u32)
     p + shifts::in_block(off, block, bits, e - p)
 }
 
-// The same in segment k, which holds p, and at most `end`.
-pub fn same_block_to(
-    list: &[u8],
-    marks: &[u32],
-    tops: &[u16],
-    m: usize,
-    k: usize,
-    p: u32,
-    end: u32,
-    block: u32,
-    bits: u32,
-) -> u32
-    requires ready { Ready list.now marks.now tops.now m }
+// The same in segment k, which holds p, and at most `end`. As a call of its own, once a piece, it would cost up to 11 in 100 of a plan.
+#[inline(always)]
+pub fn same_block_to(r: &Resolved, k: usize, p: u32, end: u32, block: u32, bits: u32) -> u32
     requires p_lt_end { (p < end) × Shifts block bits }
-    requires holds { Holds marks.now m k p }
-    ensures unbroken { Unbroken next_location (location_at block (records list.now)) p end result × (result ≤ get_or marks.now (k + 1) 0) }
-    ensures stops { result < get_or marks.now (k + 1) 0 → Stops next_location (location_at block (records list.now)) result end }
+    requires holds { Holds r.now.marks.now r.now.segments k p }
+    ensures unbroken { Unbroken next_location (location_at block (records r.now.list.now)) p end result × (result ≤ get_or r.now.marks.now (k + 1) 0) }
+    ensures stops { result < get_or r.now.marks.now (k + 1) 0 → Stops next_location (location_at block (records r.now.list.now)) result end }
 {
-    let e = segments::until(marks, k, end);
-    same_top_to(list, tops[k], p, e, block, bits)
+    let e = r.until(k, end);
+    same_top_to(r.list, r.tops[k], p, e, block, bits)
 }
 
 // Whether the piece from p on, with the record a on top of p, goes on at e, with b on top of it; id is a's. Most often the ids tell.
@@ -72,35 +63,24 @@ fn joins(list: &[u8], id: u64, a: u16, p: u32, b: u16, e: u32, block: u32) -> bo
 }
 
 // Where the maximal run of locations, of the positions from p up to `end`, that starts at p ends, and in which segment; segment k holds p.
-pub(crate) fn reach(
-    list: &[u8],
-    marks: &[u32],
-    tops: &[u16],
-    m: usize,
-    k: usize,
-    p: u32,
-    end: u32,
-    block: u32,
-    bits: u32,
-) -> Reached
-    requires ready { Ready list.now marks.now tops.now m }
+pub(crate) fn reach(r: &Resolved, k: usize, p: u32, end: u32, block: u32, bits: u32) -> Reached
     requires p_lt_end { (p < end) × (end ≤ chunk) × Shifts block bits }
-    requires holds { Holds marks.now m k p }
-    ensures leads { Leads next_location (location_at block (records list.now)) p end (location_at block (records list.now) p) result.end }
-    ensures holds_2 { result.end < end → Holds marks.now m result.segment result.end }
+    requires holds { Holds r.now.marks.now r.now.segments k p }
+    ensures leads { Leads next_location (location_at block (records r.now.list.now)) p end (location_at block (records r.now.list.now) p) result.end }
+    ensures holds_2 { result.end < end → Holds r.now.marks.now r.now.segments result.segment result.end }
 {
-    let top = tops[k];
-    let id = tops::id_on(list, top);
+    let top = r.tops[k];
+    let id = tops::id_on(r.list, top);
     let mut segment = k;
-    let mut e = same_block_to(list, marks, tops, m, k, p, end, block, bits);
+    let mut e = same_block_to(r, k, p, end, block, bits);
     while e < end {
         // A block ends inside the segment: no piece goes on there.
-        if e < marks[segment + 1] {
+        if e < r.marks[segment + 1] {
             return Reached { end: e, segment };
         }
         segment += 1;
-        if joins(list, id, top, p, tops[segment], e, block) {
-            e = same_block_to(list, marks, tops, m, segment, e, end, block, bits);
+        if joins(r.list, id, top, p, r.tops[segment], e, block) {
+            e = same_block_to(r, segment, e, end, block, bits);
         } else {
             return Reached { end: e, segment };
         }

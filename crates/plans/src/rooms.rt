@@ -13,6 +13,7 @@ ghost use Rattle.plans.specs.Plan.{pieces};
 use crate::walk;
 use blocks::bits_of;
 use outcomes::Refusal;
+use resolve::segments::Resolved;
 use slices::RECORD;
 
 // Resolves the list in a room for at most N records, and answers with the pieces of the positions from `from` up to `end`.
@@ -39,21 +40,16 @@ pub fn sized<const N: usize, const MARKS: usize, const TOPS: usize>(
     let mut ends = [0u32; N];
     let mut order = [0u16; N];
     let mut spare = [0u16; N];
-    let m = resolve::resolve(
+    let segments = resolve::resolve(
         list, &mut marks, &mut tops, &mut pos, &mut ends, &mut order, &mut spare,
     );
-    walk::answer(
+    let r = Resolved {
         list,
-        &marks,
-        &tops,
-        m,
-        from,
-        end,
-        block,
-        bits_of(block),
-        index,
-        out,
-    )
+        marks: &marks,
+        tops: &tops,
+        segments,
+    };
+    walk::answer(&r, from, end, block, bits_of(block), index, out)
 }
 
 // For more than 32 records, or as many as you like.

@@ -5,22 +5,18 @@ ghost use Rattle.outcomes.specs.Answers.{Answers};
 ghost use Rattle.outcomes.specs.Outcome.{delivered};
 ghost use Rattle.slices.specs.Limits.{chunk};
 ghost use Rattle.slices.specs.Record.{records};
-ghost use Rattle.resolve.specs.Resolved.{Ready};
 ghost use Rattle.plans.specs.Inner.{Shifts, front_bytes};
 ghost use Rattle.plans.specs.Piece.{piece_size, chunk_bytes};
 ghost use Rattle.plans.specs.Plan.{pieces};
 
 use crate::{PIECE, bytes, reach, shifts};
 use outcomes::{Kind, Refusal};
-use resolve::segments;
+use resolve::segments::Resolved;
 
 // Writes the pieces of the positions from `from` up to `end` into a buffer that has room for them, from `start` on, or only counts their bytes;
 // where they end. The halves of `front` are the index of the chunk and the places of the read before these.
 pub fn walk_pieces(
-    list: &[u8],
-    marks: &[u32],
-    tops: &[u16],
-    m: usize,
+    r: &Resolved,
     from: u32,
     end: u32,
     block: u32,
@@ -30,25 +26,24 @@ pub fn walk_pieces(
     out: &mut [u8],
     start: usize,
 ) -> usize
-    requires ready { Ready list.now marks.now tops.now m }
     requires from_lt_end { (from < end) × (end ≤ chunk) × Shifts block bits }
     requires from_bound { (front % 2 ^ 32 + (end - from) ≤ 2 ^ 32) × (start ≤ 2 ^ 40) }
-    requires from_in_bounds { write ≡ true → start + length (front_bytes front (pieces block (records list.now) from (end - from))) ≤ length out.old }
-    ensures value { result ≡ start + length (front_bytes front (pieces block (records list.now) from (end - from))) }
-    ensures out_after { out.new ≡ cond write (splice out.old start (front_bytes front (pieces block (records list.now) from (end - from)))) out.old }
+    requires from_in_bounds { write ≡ true → start + length (front_bytes front (pieces block (records r.now.list.now) from (end - from))) ≤ length out.old }
+    ensures value { result ≡ start + length (front_bytes front (pieces block (records r.now.list.now) from (end - from))) }
+    ensures out_after { out.new ≡ cond write (splice out.old start (front_bytes front (pieces block (records r.now.list.now) from (end - from)))) out.old }
 {
     let mut p = from;
-    let mut k = segments::find(marks, m, from);
+    let mut k = r.find(from);
     let mut to = start;
     while p < end {
-        let top = tops[k];
-        let run = reach::reach(list, marks, tops, m, k, p, end, block, bits);
+        let top = r.tops[k];
+        let run = reach::reach(r, k, p, end, block, bits);
         let at = p;
         p = run.end;
         k = run.segment;
         bytes::put_if(
             write,
-            list,
+            r.list,
             top,
             at,
             front + (at - from) as u64,
@@ -73,10 +68,7 @@ fn roomy(m: usize, from: u32, end: u32, bits: u32, room: usize) -> bool
 
 // Answers with these pieces. They are counted first only where they may have no room.
 pub(crate) fn answer(
-    list: &[u8],
-    marks: &[u32],
-    tops: &[u16],
-    m: usize,
+    r: &Resolved,
     from: u32,
     end: u32,
     block: u32,
@@ -84,23 +76,16 @@ pub(crate) fn answer(
     index: u32,
     out: &mut [u8],
 ) -> Result<usize, Refusal>
-    requires ready { Ready list.now marks.now tops.now m }
-    requires from_lt_end { (from < end) × (end ≤ chunk) × Shifts block bits }
-    ensures { Answers (delivered (chunk_bytes index 0 (pieces block (records list.now) from (end - from))) (length out.old)) out.old result out.new }
+    requires { (from < end) × (end ≤ chunk) × Shifts block bits }
+    ensures { Answers (delivered (chunk_bytes index 0 (pieces block (records r.now.list.now) from (end - from))) (length out.old)) out.old result out.new }
 {
     let front = index as u64 * 4294967296;
-    if roomy(m, from, end, bits, out.len()) {
-        return Ok(walk_pieces(
-            list, marks, tops, m, from, end, block, bits, front, true, out, 0,
-        ));
+    if roomy(r.segments, from, end, bits, out.len()) {
+        return Ok(walk_pieces(r, from, end, block, bits, front, true, out, 0));
     }
-    let need = walk_pieces(
-        list, marks, tops, m, from, end, block, bits, front, false, out, 0,
-    );
+    let need = walk_pieces(r, from, end, block, bits, front, false, out, 0);
     if out.len() < need {
         return Err(Refusal::from(Kind::ShortBuffer));
     }
-    Ok(walk_pieces(
-        list, marks, tops, m, from, end, block, bits, front, true, out, 0,
-    ))
+    Ok(walk_pieces(r, from, end, block, bits, front, true, out, 0))
 }

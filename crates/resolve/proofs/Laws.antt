@@ -4,5 +4,6 @@ pub mod Set
 pub mod Sweep
 pub mod Turn
 pub mod Resolved
+pub mod Ready
 pub mod Sorted
 pub mod Tops

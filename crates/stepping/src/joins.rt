@@ -5,13 +5,14 @@ ghost use Rattle.codec.specs.All.{All};
 ghost use Rattle.slices.specs.Limits.{chunk};
 ghost use Rattle.slices.specs.Passes.{Passes};
 ghost use Rattle.slices.specs.Record.{records};
-ghost use Rattle.resolve.specs.Resolved.{OnTop, Ready, Holds};
+ghost use Rattle.resolve.specs.Resolved.{OnTop, Holds};
 ghost use Rattle.resolve.specs.Tops.{id_on};
 ghost use Rattle.runs.specs.Inner.{Leads};
 ghost use Rattle.plans.specs.Inner.{Shifts};
 ghost use Rattle.plans.specs.Location.{location_at, next_location, onward};
 
 use plans::{locations, reach};
+use resolve::segments::Resolved;
 use resolve::tops;
 
 // Whether the piece from p on, with the record a on top of p, goes on at e, with b on top of it.
@@ -39,34 +40,23 @@ fn goes_on(list: &[u8], id: u64, a: u16, p: u32, b: u16, e: u32, block: u32) -> 
 }
 
 // Where the maximal run of locations, of the positions from p up to `end`, that starts at p ends; segment k holds p.
-pub(crate) fn run_to(
-    list: &[u8],
-    marks: &[u32],
-    tops: &[u16],
-    m: usize,
-    k: usize,
-    p: u32,
-    end: u32,
-    block: u32,
-    bits: u32,
-) -> u32
-    requires ready { Ready list.now marks.now tops.now m }
+pub(crate) fn run_to(r: &Resolved, k: usize, p: u32, end: u32, block: u32, bits: u32) -> u32
     requires p_lt_end { (p < end) × (end ≤ chunk) × Shifts block bits }
-    requires holds { Holds marks.now m k p }
-    ensures { Leads next_location (location_at block (records list.now)) p end (location_at block (records list.now) p) result }
+    requires holds { Holds r.now.marks.now r.now.segments k p }
+    ensures { Leads next_location (location_at block (records r.now.list.now)) p end (location_at block (records r.now.list.now) p) result }
 {
-    let top = tops[k];
-    let id = tops::id_on(list, top);
+    let top = r.tops[k];
+    let id = tops::id_on(r.list, top);
     let mut segment = k;
-    let mut e = reach::same_block_to(list, marks, tops, m, k, p, end, block, bits);
+    let mut e = reach::same_block_to(r, k, p, end, block, bits);
     while e < end {
         // A block ends inside the segment: no piece goes on there.
-        if e < marks[segment + 1] {
+        if e < r.marks[segment + 1] {
             return e;
         }
         segment += 1;
-        if goes_on(list, id, top, p, tops[segment], e, block) {
-            e = reach::same_block_to(list, marks, tops, m, segment, e, end, block, bits);
+        if goes_on(r.list, id, top, p, r.tops[segment], e, block) {
+            e = reach::same_block_to(r, segment, e, end, block, bits);
         } else {
             return e;
         }

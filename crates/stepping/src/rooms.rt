@@ -8,7 +8,7 @@ ghost use Rattle.files.specs.Inner.{Resolvable};
 ghost use Rattle.stepping.specs.Inner.{EndsAt};
 
 use crate::joins;
-use resolve::segments;
+use resolve::segments::Resolved;
 use slices::RECORD;
 
 // Where a piece ends, and the record on top of its first position, counted from 1; 0 says that there is none.
@@ -36,12 +36,17 @@ fn end_in(
     requires p_lt_end { (p < end) × (end ≤ chunk) × Shifts block bits }
     ensures { EndsAt block list.now p end result.top result.end }
 {
-    let m = resolve::resolve(list, marks, tops, pos, ends, order, spare);
-    let k = segments::find(marks, m, p);
-    let e = joins::run_to(list, marks, tops, m, k, p, end, block, bits);
+    let segments = resolve::resolve(list, marks, tops, pos, ends, order, spare);
+    let r = Resolved {
+        list,
+        marks,
+        tops,
+        segments,
+    };
+    let k = r.find(p);
     Ended {
-        end: e,
-        top: tops[k],
+        end: joins::run_to(&r, k, p, end, block, bits),
+        top: r.tops[k],
     }
 }
 

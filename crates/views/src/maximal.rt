@@ -4,7 +4,7 @@ ghost use Rattle.codec.specs.All.{All};
 ghost use Rattle.slices.specs.Passes.{Passes};
 ghost use Rattle.slices.specs.Cover.{cover, is_nothing};
 ghost use Rattle.slices.specs.Limits.{chunk};
-ghost use Rattle.resolve.specs.Resolved.{OnTop, Ready, Holds};
+ghost use Rattle.resolve.specs.Resolved.{OnTop, Holds};
 ghost use Rattle.slices.specs.Record.{records};
 ghost use Rattle.slices.specs.declared.Source.TheVariants as source;
 ghost use Rattle.views.specs.View.{next};
@@ -12,7 +12,8 @@ ghost use Rattle.resolve.specs.Tops.{id_on};
 ghost use Rattle.runs.specs.Inner.{Leads};
 ghost use Rattle.views.specs.Inner.{shift};
 
-use resolve::{Reached, segments, tops};
+use resolve::segments::Resolved;
+use resolve::{Reached, tops};
 use slices::Source;
 
 fn is_nothing(a: Source) -> bool
@@ -73,29 +74,20 @@ fn joins(list: &[u8], id: u64, a: u16, p: u32, b: u16, e: u32) -> bool
 }
 
 // Where the maximal run of the positions from p up to `end` that starts at p ends, and in which segment; segment k holds p.
-pub(crate) fn reach(
-    list: &[u8],
-    marks: &[u32],
-    tops: &[u16],
-    m: usize,
-    k: usize,
-    p: u32,
-    end: u32,
-) -> Reached
-    requires ready { Ready list.now marks.now tops.now m }
+pub(crate) fn reach(r: &Resolved, k: usize, p: u32, end: u32) -> Reached
     requires p_lt_end { (p < end) × (end ≤ chunk) }
-    requires holds { Holds marks.now m k p }
-    ensures leads { Leads next (cover (records list.now)) p end (cover (records list.now) p) result.end }
-    ensures holds_2 { result.end < end → Holds marks.now m result.segment result.end }
+    requires holds { Holds r.now.marks.now r.now.segments k p }
+    ensures leads { Leads next (cover (records r.now.list.now)) p end (cover (records r.now.list.now) p) result.end }
+    ensures holds_2 { result.end < end → Holds r.now.marks.now r.now.segments result.segment result.end }
 {
-    let top = tops[k];
-    let id = tops::id_on(list, top);
+    let top = r.tops[k];
+    let id = tops::id_on(r.list, top);
     let mut segment = k;
-    let mut e = segments::until(marks, k, end);
+    let mut e = r.until(k, end);
     while e < end {
         segment += 1;
-        if joins(list, id, top, p, tops[segment], e) {
-            e = segments::until(marks, segment, end);
+        if joins(r.list, id, top, p, r.tops[segment], e) {
+            e = r.until(segment, end);
         } else {
             return Reached { end: e, segment };
         }

@@ -9,6 +9,7 @@ ghost use Rattle.views.specs.Inner.{runs_outcome};
 
 use crate::walk;
 use outcomes::Refusal;
+use resolve::segments::Resolved;
 use slices::RECORD;
 
 // Resolves the list in a room for at most N records, and answers with the records of its runs.
@@ -29,10 +30,16 @@ pub(crate) fn sized<const N: usize, const MARKS: usize, const TOPS: usize>(
     let mut ends = [0u32; N];
     let mut order = [0u16; N];
     let mut spare = [0u16; N];
-    let m = resolve::resolve(
+    let segments = resolve::resolve(
         list, &mut marks, &mut tops, &mut pos, &mut ends, &mut order, &mut spare,
     );
-    walk::answer(list, &marks, &tops, m, end, all, out)
+    let r = Resolved {
+        list,
+        marks: &marks,
+        tops: &tops,
+        segments,
+    };
+    walk::answer(&r, end, all, out)
 }
 
 // For more than 32 records, or as many as you like.

@@ -21,8 +21,8 @@ returns-then-part c =
     let both = nothing_put _ _ _ _ _ _ _ _ p.0 p.1 c.if-part.true a.write a.out.now a.start in
     record { value = both.0; out_after = both.1 }
 
-pub resolve-m-requires : goal.resolve-m-requires
-resolve-m-requires c =
+pub resolve-segments-requires : goal.resolve-segments-requires
+resolve-segments-requires c =
     record { all = c.requires.resolvable.0.pass; list_bound = c.requires.resolvable.0.few; list_in_bounds = (c.requires.resolvable.1.marks_fit, c.requires.resolvable.1.tops_fit); list_in_bounds_2 = (c.requires.resolvable.1.pos_fit, c.requires.resolvable.1.ends_fit, c.requires.resolvable.1.order_fit, c.requires.resolvable.1.spare_fit) }
 
 pub overflow_add-front : goal.overflow_add-front
@@ -52,7 +52,7 @@ unfolding part_from part_end chunk
 walk_pieces-requires c =
     let e = c.part-part.ensures in
     let before = c.places_before in
-    record { ready = c.resolve-m.ensures; from_lt_end = (c.if-part.false, omega (arith, e.1), c.requires.k_lt_max_lists.3); from_bound = (omega (arith, e.0, e.1, before.ensures, c.requires.k_lt_max_lists.0), c.requires.k_lt_max_lists.2); from_in_bounds = (λ t. omega (arith, c.requires.list_in_bounds t, ap length (same (goal.at.walk_pieces-requires c).After-places_before))) }
+    record { from_lt_end = (c.if-part.false, omega (arith, e.1), c.requires.k_lt_max_lists.3); from_bound = (omega (arith, e.0, e.1, before.ensures, c.requires.k_lt_max_lists.0), c.requires.k_lt_max_lists.2); from_in_bounds = (λ t. omega (arith, c.requires.list_in_bounds t, ap length (same (goal.at.walk_pieces-requires c).After-places_before))) }
 
 pub returns : goal.returns
 returns c =

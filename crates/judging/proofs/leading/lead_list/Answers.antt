@@ -2,8 +2,8 @@
 use Rattle.judging.proofs.Laws.Leading.{leads_start}
 use Rattle.judging.proofs.leading.lead_list.Goals as goal
 
-pub resolve-m-requires : goal.resolve-m-requires
-resolve-m-requires c =
+pub resolve-segments-requires : goal.resolve-segments-requires
+resolve-segments-requires c =
     record { all = c.requires.resolvable.0.pass; list_bound = c.requires.resolvable.0.few; list_in_bounds = (c.requires.resolvable.1.marks_fit, c.requires.resolvable.1.tops_fit); list_in_bounds_2 = (c.requires.resolvable.1.pos_fit, c.requires.resolvable.1.ends_fit, c.requires.resolvable.1.order_fit, c.requires.resolvable.1.spare_fit) }
 
 pub returns : goal.returns

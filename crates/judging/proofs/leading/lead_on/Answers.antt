@@ -4,11 +4,12 @@ use mathlib.Core.Path.{refl}
 use Rattle.slices.specs.Limits.{chunk}
 use Rattle.judging.proofs.Laws.Places.{some_segment}
 use Rattle.judging.proofs.Laws.Leading.{leads_start, next_fits, next_some, next_inside, leads_more}
+use Rattle.resolve.proofs.Laws.Ready.{ready_of}
 use Rattle.judging.proofs.leading.lead_on.Goals as goal
 
 pub loop-number-init : goal.loop-number-init
 loop-number-init c =
-    (leads_start _ _ _ _ _ _ _ _ _ c.requires.number_in_bounds.0 c.requires.number_in_bounds.1 c.requires.number_in_bounds.2, some_segment _ _ _ _ c.requires.ready.resolved)
+    (leads_start _ _ _ _ _ _ _ _ _ c.requires.number_in_bounds.0 c.requires.number_in_bounds.1 c.requires.number_in_bounds.2, some_segment _ _ _ _ (ready_of c.args.r.now.ready).resolved)
 
 pub read_piece-p-requires : goal.read_piece-p-requires
 read_piece-p-requires c = omega (arith, c.loop-number-test.true)
@@ -30,7 +31,7 @@ unfolding chunk
 meet-met-requires c =
     let t = c.comes_next.ensures c.if-comes_next.true in
     let s = next_some _ _ _ _ _ t.0 t.1 in
-    record { ready = c.requires.ready; q_lt_end = (omega arith, next_fits _ _ _ _ _ t.0 t.1, c.loop-number.invariant.1, c.requires.n_bound.1) }
+    record { q_lt_end = (omega arith, next_fits _ _ _ _ _ t.0 t.1, c.loop-number.invariant.1, c.requires.n_bound.1) }
 
 pub overflow_add-number : goal.overflow_add-number
 overflow_add-number c = omega (arith, c.loop-number-test.true, c.well_formed)

@@ -5,32 +5,32 @@ use mathlib.Core.Bool.{true≢false, false≢true}
 use Rattle.resolve.proofs.Laws.Resolved.{resolved_at}
 use Rattle.plans.proofs.Laws.Shifts.{shifts_some}
 use Rattle.judging.proofs.Laws.Places.{strays_here, lies_on, following_holds}
+use Rattle.resolve.proofs.Laws.Ready.{ready_of}
 use Rattle.judging.proofs.places.meet.Goals as goal
 
 pub seek-segment-requires : goal.seek-segment-requires
-seek-segment-requires c =
-    record { m_in_bounds = (c.requires.ready.in_marks, c.requires.q_lt_end.2); marks_bound = (omega (arith, c.requires.ready.resolved.starts), omega (arith, c.requires.ready.resolved.ends, c.requires.q_lt_end.0, c.requires.q_lt_end.1)) }
+seek-segment-requires c = (c.requires.q_lt_end.2, omega (arith, c.requires.q_lt_end.0, c.requires.q_lt_end.1))
 
 pub loop-at-init : goal.loop-at-init
 loop-at-init c = (λ j l. absurd (omega arith), c.seek-segment.ensures, omega arith, c.requires.q_lt_end.0)
 
-pub offset_bounds-tops-segment : goal.offset_bounds-tops-segment
-offset_bounds-tops-segment c = omega (arith, c.loop-at.invariant.1.inside, c.requires.ready.in_tops)
+pub offset_bounds-r-segment : goal.offset_bounds-r-segment
+offset_bounds-r-segment c = omega (arith, c.loop-at.invariant.1.inside, (ready_of c.args.r.now.ready).in_tops)
 
-pub bounds-tops-segment : goal.bounds-tops-segment
-bounds-tops-segment c = omega (arith, c.loop-at.invariant.1.inside, c.requires.ready.in_tops)
+pub bounds-r-segment : goal.bounds-r-segment
+bounds-r-segment c = omega (arith, c.loop-at.invariant.1.inside, (ready_of c.args.r.now.ready).in_tops)
 
 pub overflow_sub-at : goal.overflow_sub-at
 overflow_sub-at c = c.loop-at.invariant.2
 
 pub same_at-requires : goal.same_at-requires
 same_at-requires c =
-    record { all = c.requires.ready.pass; block_nonzero = shifts_some _ _ c.requires.q_lt_end.3; on_top = resolved_at _ _ _ _ _ c.requires.ready.resolved _ _ c.loop-at.invariant.1 }
+    record { all = (ready_of c.args.r.now.ready).pass; block_nonzero = shifts_some _ _ c.requires.q_lt_end.3; on_top = resolved_at _ _ _ _ _ (ready_of c.args.r.now.ready).resolved _ _ c.loop-at.invariant.1 }
 
 pub same_block_to-at-requires : goal.same_block_to-at-requires
 same_block_to-at-requires c =
     let i = c.loop-at.invariant in
-    record { ready = c.requires.ready; p_lt_end = (i.3, c.requires.q_lt_end.3); holds = i.1 }
+    record { p_lt_end = (i.3, c.requires.q_lt_end.3); holds = i.1 }
 
 pub returns-then-end-at : goal.returns-then-end-at
 returns-then-end-at c =
@@ -38,7 +38,7 @@ returns-then-end-at c =
     record { lies_at = (λ t j l. lies_on _ _ _ _ _ i.2 _ c.same_at.ensures c.if-same_at.true _ _ c.same_block_to-at.ensures.unbroken.0 i.0 j (omega (arith, c.if-end-at.true)), λ t. absurd (true≢false t)); segment_lt_m = i.1.inside }
 
 pub following-segment-requires : goal.following-segment-requires
-following-segment-requires c = omega (arith, c.loop-at.invariant.1.inside, c.requires.ready.in_marks)
+following-segment-requires c = omega (arith, c.loop-at.invariant.1.inside, (ready_of c.args.r.now.ready).in_marks)
 
 pub loop-at-smaller : goal.loop-at-smaller
 loop-at-smaller c =
@@ -49,7 +49,7 @@ loop-at-preserved c =
     let i = c.loop-at.invariant in
     let f = c.following-segment.ensures in (
       lies_on _ _ _ _ _ i.2 _ c.same_at.ensures c.if-same_at.true _ _ c.same_block_to-at.ensures.unbroken.0 i.0,
-      following_holds _ _ _ _ _ c.requires.ready.resolved _ _ _ _ i.1 c.same_block_to-at.ensures.unbroken.0.some c.same_block_to-at.ensures.unbroken.1 (omega (arith, c.if-end-at.false, c.requires.q_lt_end.1)) f.0 f.1,
+      following_holds _ _ _ _ _ (ready_of c.args.r.now.ready).resolved _ _ _ _ i.1 c.same_block_to-at.ensures.unbroken.0.some c.same_block_to-at.ensures.unbroken.1 (omega (arith, c.if-end-at.false, c.requires.q_lt_end.1)) f.0 f.1,
       omega (arith, i.2, c.same_block_to-at.ensures.unbroken.0.some),
       omega (arith, c.if-end-at.false),
     )

@@ -7,10 +7,10 @@ returns-then-part c =
     let p = c.part-part.ensures in
     sift_nowhere _ _ _ _ _ _ _ _ _ _ p.0 p.1 c.if-part.true c.requires.limit_in_bounds.1
 
-pub resolve-m-requires : goal.resolve-m-requires
-resolve-m-requires c =
+pub resolve-segments-requires : goal.resolve-segments-requires
+resolve-segments-requires c =
     record { all = c.requires.resolvable.0.pass; list_bound = c.requires.resolvable.0.few; list_in_bounds = (c.requires.resolvable.1.marks_fit, c.requires.resolvable.1.tops_fit); list_in_bounds_2 = (c.requires.resolvable.1.pos_fit, c.requires.resolvable.1.ends_fit, c.requires.resolvable.1.order_fit, c.requires.resolvable.1.spare_fit) }
 
 pub sift_on-requires : goal.sift_on-requires
 sift_on-requires c =
-    record { ready = c.resolve-m.ensures; n_bound = (c.requires.k_lt_max_lists.1, c.requires.k_lt_max_lists.2); limit_in_bounds = c.requires.limit_in_bounds }
+    record { n_bound = (c.requires.k_lt_max_lists.1, c.requires.k_lt_max_lists.2); limit_in_bounds = c.requires.limit_in_bounds }

@@ -6,11 +6,12 @@ use Rattle.slices.specs.Limits.{chunk}
 use Rattle.judging.proofs.Laws.Forms.{form_read}
 use Rattle.judging.proofs.Laws.Places.{some_segment}
 use Rattle.judging.proofs.Laws.Sifting.{sift_other, sift_lies, sift_strays, sift_end}
+use Rattle.resolve.proofs.Laws.Ready.{ready_of}
 use Rattle.judging.proofs.sifting.sift_on.Goals as goal
 use Rattle.judging.proofs.sifting.sift_on.Goals.{then-at-k+else-not-met, else-at-k}
 
 pub loop-i-init : goal.loop-i-init
-loop-i-init c = (λ j l. absurd (omega arith), some_segment _ _ _ _ c.requires.ready.resolved)
+loop-i-init c = (λ j l. absurd (omega arith), some_segment _ _ _ _ (ready_of c.args.r.now.ready).resolved)
 
 pub overflow_add-at : goal.overflow_add-at
 overflow_add-at c =
@@ -21,11 +22,11 @@ unfolding chunk
 overflow_add-q c =
     let f = form_read _ _ _ _ _ _ c.requires.limit_in_bounds.1 c.loop-i-test.true c.read_piece-p.ensures in omega (arith, f.fits)
 
-pub meet-met-requires-clause-q_lt_end : goal.meet-met-requires-clause-q_lt_end
+pub meet-met-requires : goal.meet-met-requires
 unfolding chunk
-meet-met-requires-clause-q_lt_end c =
+meet-met-requires c =
     let f = form_read _ _ _ _ _ _ c.requires.limit_in_bounds.1 c.loop-i-test.true c.read_piece-p.ensures in
-    (omega (arith, f.some), f.fits, c.loop-i.invariant.1, c.requires.n_bound.1)
+    record { q_lt_end = (omega (arith, f.some), f.fits, c.loop-i.invariant.1, c.requires.n_bound.1) }
 
 pub returns-then-not-met : goal.returns-then-not-met
 unfolding chunk

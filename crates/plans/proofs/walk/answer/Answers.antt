@@ -20,12 +20,13 @@ use Rattle.plans.specs.declared.Location.{Location}
 use Rattle.plans.proofs.Laws.Few.{plan_room_lem}
 use Rattle.plans.proofs.Laws.Pieces.{front_chunk}
 use Rattle.plans.proofs.Laws.Shifts.{shifts_some}
+use Rattle.resolve.proofs.Laws.Ready.{ready_of}
 use Rattle.plans.proofs.walk.answer.Goals as goal
 use Rattle.plans.proofs.walk.answer.Goals.{Start, Then-roomy}
 
 -- the plan, and its bytes
 abbrev planned : Start → List (Run Location)
-planned c = let a = c.args in pieces a.block (records a.list.now) a.from (a.end - a.from)
+planned c = let a = c.args in pieces a.block (records a.r.now.list.now) a.from (a.end - a.from)
 
 abbrev bytes : Start → List ℕ
 bytes c = chunk_bytes c.args.index 0 (planned c)
@@ -39,24 +40,24 @@ writes c o o' e = e ∙ ap (splice o 0) (front_chunk c.args.index (planned c))
 
 -- all pieces that can come have room
 fits : (c : Then-roomy)
-    → let a = c.args in length (chunk_bytes a.index 0 (pieces a.block (records a.list.now) a.from (a.end - a.from))) ≤ length a.out.now
+    → let a = c.args in length (chunk_bytes a.index 0 (pieces a.block (records a.r.now.list.now) a.from (a.end - a.from))) ≤ length a.out.now
 fits c =
-    let s = c.requires.from_lt_end.2 in
+    let s = c.requires.2 in
     let h = rw (← s.power) at (c.roomy.ensures c.if-roomy.true) in
-    plan_room_lem _ _ (shifts_some _ _ s) _ _ _ _ c.requires.ready.resolved c.requires.from_lt_end.1 _ _ _ _ c.requires.from_lt_end.0 h
+    plan_room_lem _ _ (shifts_some _ _ s) _ _ _ _ (ready_of c.args.r.now.ready).resolved c.requires.1 _ _ _ _ c.requires.0 h
 
 -- its places are below 2 ^ 32
 low : (c : Start) → (c.args.index * 4294967296 % 4294967296 + (c.args.end - c.args.from) ≤ 4294967296) × (0 ≤ 1099511627776)
 unfolding chunk
-low c = (omega (arith, c.requires.from_lt_end.1), omega arith)
+low c = (omega (arith, c.requires.1), omega arith)
 
 pub roomy-requires : goal.roomy-requires
 roomy-requires c =
-    (resolved_few _ _ _ _ _ c.requires.ready.resolved, omega (arith, c.requires.from_lt_end.0), c.requires.from_lt_end.2.few)
+    (resolved_few _ _ _ _ _ (ready_of c.args.r.now.ready).resolved, omega (arith, c.requires.0), c.requires.2.few)
 
 pub walk_pieces-requires : goal.walk_pieces-requires
 walk_pieces-requires c =
-    record { ready = c.requires.ready; from_lt_end = c.requires.from_lt_end; from_bound = low (goal.at.walk_pieces-requires c).Start; from_in_bounds = (λ t. omega (arith, fits (goal.at.walk_pieces-requires c).Then-roomy, ap length (front_chunk c.args.index (planned (goal.at.walk_pieces-requires c).Start)))) }
+    record { from_lt_end = c.requires; from_bound = low (goal.at.walk_pieces-requires c).Start; from_in_bounds = (λ t. omega (arith, fits (goal.at.walk_pieces-requires c).Then-roomy, ap length (front_chunk c.args.index (planned (goal.at.walk_pieces-requires c).Start)))) }
 
 pub returns-then-roomy : goal.returns-then-roomy
 returns-then-roomy c =
@@ -64,7 +65,7 @@ returns-then-roomy c =
 
 pub walk_pieces-need-requires : goal.walk_pieces-need-requires
 walk_pieces-need-requires c =
-    record { ready = c.requires.ready; from_lt_end = c.requires.from_lt_end; from_bound = low (goal.at.walk_pieces-need-requires c).Start; from_in_bounds = (λ t. absurd (false≢true t)) }
+    record { from_lt_end = c.requires; from_bound = low (goal.at.walk_pieces-need-requires c).Start; from_in_bounds = (λ t. absurd (false≢true t)) }
 
 pub returns-then-out-need : goal.returns-then-out-need
 returns-then-out-need c =
@@ -72,7 +73,7 @@ returns-then-out-need c =
 
 pub walk_pieces-requires-2 : goal.walk_pieces-requires-2
 walk_pieces-requires-2 c =
-    record { ready = c.requires.ready; from_lt_end = c.requires.from_lt_end; from_bound = low (goal.at.walk_pieces-requires-2 c).Start; from_in_bounds = (λ t. omega (arith, c.if-out-need.false, c.walk_pieces-need.ensures.value)) }
+    record { from_lt_end = c.requires; from_bound = low (goal.at.walk_pieces-requires-2 c).Start; from_in_bounds = (λ t. omega (arith, c.if-out-need.false, c.walk_pieces-need.ensures.value)) }
 
 pub returns : goal.returns
 returns c =

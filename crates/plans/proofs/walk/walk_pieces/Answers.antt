@@ -17,40 +17,36 @@ use Rattle.plans.specs.Plan.{pieces}
 use Rattle.plans.specs.Inner.{pieces_left, front_bytes}
 use Rattle.plans.proofs.Laws.Pieces.{front_on}
 use Rattle.plans.proofs.Laws.Walk.{left_more, left_none, left_bytes}
+use Rattle.resolve.proofs.Laws.Ready.{ready_of}
 use Rattle.plans.proofs.walk.walk_pieces.Goals as goal
 use Rattle.plans.proofs.walk.walk_pieces.Goals.{After-reach-run, In-loop-p, Start}
 
 -- what is written is the plan's bytes
 bytes : (c : Start) → let a = c.args in
-    flat_map encode_run (pieces_left a.block (records a.list.now) a.front a.from a.end a.from) ≡ front_bytes a.front (pieces a.block (records a.list.now) a.from (a.end - a.from))
-bytes c = let a = c.args in left_bytes a.block (records a.list.now) a.front a.from a.end
+    flat_map encode_run (pieces_left a.block (records a.r.now.list.now) a.front a.from a.end a.from) ≡ front_bytes a.front (pieces a.block (records a.r.now.list.now) a.from (a.end - a.from))
+bytes c = let a = c.args in left_bytes a.block (records a.r.now.list.now) a.front a.from a.end
 
 -- the segment that holds a piece's first position
-held : (c : In-loop-p) → let a = c.args in Holds a.marks.now a.m c.loop-p.k c.loop-p.p
+held : (c : In-loop-p) → let a = c.args in Holds a.r.now.marks.now a.r.now.segments c.loop-p.k c.loop-p.p
 held c = c.loop-p.invariant.1 c.loop-p-test.true
 
 -- the record on top of it
-on_top : (c : In-loop-p) → let a = c.args in OnTop a.list.now (get_or a.tops.now c.loop-p.k 0) c.loop-p.p (c.loop-p.p + 1)
-on_top c = resolved_at _ _ _ _ _ c.requires.ready.resolved _ _ (held c)
-
-pub find-k-requires : goal.find-k-requires
-find-k-requires c =
-    let r = c.requires.ready.resolved in
-    record { m_in_bounds = c.requires.ready.in_marks; marks_bound = (omega (arith, r.starts), omega (arith, r.ends, c.requires.from_lt_end.0, c.requires.from_lt_end.1)) }
+on_top : (c : In-loop-p) → let a = c.args in OnTop a.r.now.list.now (get_or a.r.now.tops.now c.loop-p.k 0) c.loop-p.p (c.loop-p.p + 1)
+on_top c = resolved_at _ _ _ _ _ (ready_of c.args.r.now.ready).resolved _ _ (held c)
 
 pub loop-p-init : goal.loop-p-init
 loop-p-init c =
     (filled_start _ _ _ _ _ _ _ _ _ (omega (arith, c.requires.from_lt_end.0)) (λ t. omega (arith, ap length (bytes (goal.at.loop-p-init c).Start), c.requires.from_in_bounds t)), (λ h. c.find-k.ensures), le_refl _)
 
-pub offset_bounds-tops-k : goal.offset_bounds-tops-k
-offset_bounds-tops-k c = omega (arith, (held c).inside, c.requires.ready.in_tops)
+pub offset_bounds-r-k : goal.offset_bounds-r-k
+offset_bounds-r-k c = omega (arith, (held c).inside, (ready_of c.args.r.now.ready).in_tops)
 
-pub bounds-tops-k : goal.bounds-tops-k
-bounds-tops-k c = omega (arith, (held (goal.at.bounds-tops-k c).In-loop-p).inside, c.requires.ready.in_tops)
+pub bounds-r-k : goal.bounds-r-k
+bounds-r-k c = omega (arith, (held (goal.at.bounds-r-k c).In-loop-p).inside, (ready_of c.args.r.now.ready).in_tops)
 
 pub reach-run-requires : goal.reach-run-requires
 reach-run-requires c =
-    record { ready = c.requires.ready; p_lt_end = (c.loop-p-test.true, c.requires.from_lt_end.1, c.requires.from_lt_end.2); holds = held (goal.at.reach-run-requires c).In-loop-p }
+    record { p_lt_end = (c.loop-p-test.true, c.requires.from_lt_end.1, c.requires.from_lt_end.2); holds = held (goal.at.reach-run-requires c).In-loop-p }
 
 pub overflow_sub-at : goal.overflow_sub-at
 overflow_sub-at c = omega (arith, c.loop-p.invariant.2)
@@ -62,14 +58,14 @@ within c =
     omega (arith, c.loop-p-test.true, c.requires.from_bound.0)
 
 pub overflow_add-front : goal.overflow_add-front
-overflow_add-front c = omega (arith, within c, c.ranges.front)
+overflow_add-front c = omega (arith, within (goal.at.overflow_add-front c).After-reach-run, c.ranges.front)
 
 pub overflow_sub-p : goal.overflow_sub-p
 overflow_sub-p c = omega (arith, c.reach-run.ensures.leads.some)
 
 pub put_if-requires : goal.put_if-requires
 put_if-requires c =
-    record { all = (c.requires.ready.pass, c.requires.from_lt_end.2); on_top = on_top (goal.at.put_if-requires c).In-loop-p; piece_size_in_bounds = filled_room _ _ _ _ _ _ _ _ _ _ _ _ _ c.loop-p.invariant.0 c.reach-run.ensures.leads.some c.reach-run.ensures.leads.inside _ (left_more _ _ _ _ _ _ _ _ c.reach-run.ensures.leads) }
+    record { all = ((ready_of c.args.r.now.ready).pass, c.requires.from_lt_end.2); on_top = on_top (goal.at.put_if-requires c).In-loop-p; piece_size_in_bounds = filled_room _ _ _ _ _ _ _ _ _ _ _ _ _ c.loop-p.invariant.0 c.reach-run.ensures.leads.some c.reach-run.ensures.leads.inside _ (left_more _ _ _ _ _ _ _ _ c.reach-run.ensures.leads) }
 
 pub overflow_add-to : goal.overflow_add-to
 unfolding chunk

@@ -10,7 +10,7 @@ use Rattle.runs.specs.Inner.{Unbroken}
 use Rattle.views.proofs.maximal.reach.Given as goal
 
 abbrev pub invariant-loop-e : goal.invariant-loop-e
-invariant-loop-e l = Unbroken next (cover (records l.list)) l.p l.end l.e × (l.segment < l.m) × Lesser (get_or l.marks (l.segment + 1) 0) l.end l.e
+invariant-loop-e l = Unbroken next (cover (records l.r.list.now)) l.p l.end l.e × (l.segment < l.r.segments) × Lesser (get_or l.r.marks.now (l.segment + 1) 0) l.end l.e
 
 abbrev pub decreases-loop-e : goal.decreases-loop-e
 decreases-loop-e l = l.end - l.e

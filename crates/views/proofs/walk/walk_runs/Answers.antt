@@ -12,35 +12,36 @@ use Rattle.resolve.proofs.Laws.Resolved.{resolved_at, resolved_front}
 use Rattle.views.proofs.Laws.Tops.{shown_wanted}
 use Rattle.views.proofs.Laws.ViewFrom.{view_from_more, view_from_less, view_from_none}
 use Rattle.runs.proofs.Laws.Loops.{filled_start, filled_room, filled_more, filled_less, filled_end, filled_count}
+use Rattle.resolve.proofs.Laws.Ready.{ready_of}
 use Rattle.views.proofs.walk.walk_runs.Goals as goal
 use Rattle.views.proofs.walk.walk_runs.Goals.{In-loop-p}
 
 -- the record on top of a run's first position
 on_top : (c : In-loop-p)
-    → OnTop c.args.list.now (get_or c.args.tops.now c.loop-p.k 0) c.loop-p.p (c.loop-p.p + 1)
-on_top c = resolved_at _ _ _ _ _ c.requires.ready.resolved _ _ (c.loop-p.invariant.1 c.loop-p-test.true)
+    → OnTop c.args.r.now.list.now (get_or c.args.r.now.tops.now c.loop-p.k 0) c.loop-p.p (c.loop-p.p + 1)
+on_top c = resolved_at _ _ _ _ _ (ready_of c.args.r.now.ready).resolved _ _ (c.loop-p.invariant.1 c.loop-p-test.true)
 
 pub loop-p-init : goal.loop-p-init
 unfolding encode_all
 loop-p-init c =
-    (filled_start _ _ _ _ _ _ _ _ _ zero-le (λ t. omega (arith, c.requires.end_in_bounds t)), (λ h. resolved_front _ _ _ _ _ c.requires.ready.resolved (omega (arith, h, c.requires.end_le_chunk))))
+    (filled_start _ _ _ _ _ _ _ _ _ zero-le (λ t. omega (arith, c.requires.end_in_bounds t)), (λ h. resolved_front _ _ _ _ _ (ready_of c.args.r.now.ready).resolved (omega (arith, h, c.requires.end_le_chunk))))
 
-pub offset_bounds-tops-k : goal.offset_bounds-tops-k
-offset_bounds-tops-k c = omega (arith, (c.loop-p.invariant.1 c.loop-p-test.true).inside, c.requires.ready.in_tops)
+pub offset_bounds-r-k : goal.offset_bounds-r-k
+offset_bounds-r-k c = omega (arith, (c.loop-p.invariant.1 c.loop-p-test.true).inside, (ready_of c.args.r.now.ready).in_tops)
 
-pub bounds-tops-k : goal.bounds-tops-k
-bounds-tops-k c = omega (arith, (c.loop-p.invariant.1 c.loop-p-test.true).inside, c.requires.ready.in_tops)
+pub bounds-r-k : goal.bounds-r-k
+bounds-r-k c = omega (arith, (c.loop-p.invariant.1 c.loop-p-test.true).inside, (ready_of c.args.r.now.ready).in_tops)
 
 pub reach-run-requires : goal.reach-run-requires
 reach-run-requires c =
-    record { ready = c.requires.ready; p_lt_end = (c.loop-p-test.true, c.requires.end_le_chunk); holds = c.loop-p.invariant.1 c.loop-p-test.true }
+    record { p_lt_end = (c.loop-p-test.true, c.requires.end_le_chunk); holds = c.loop-p.invariant.1 c.loop-p-test.true }
 
 pub overflow_sub-p : goal.overflow_sub-p
 overflow_sub-p c = omega (arith, c.reach-run.ensures.leads.some)
 
 pub put_if-requires : goal.put_if-requires
 put_if-requires c =
-    record { all = c.requires.ready.pass; on_top = on_top (goal.at.put_if-requires c).In-loop-p; record_size_in_bounds = filled_room _ _ _ _ _ _ _ _ _ _ _ _ _ c.loop-p.invariant.0 c.reach-run.ensures.leads.some c.reach-run.ensures.leads.inside _ (view_from_more _ _ _ _ _ _ _ _ c.reach-run.ensures.leads (c.shown.ensures ∙ shown_wanted _ _ _ _ (on_top (goal.at.put_if-requires c).In-loop-p)) c.if-shown.true refl) }
+    record { all = (ready_of c.args.r.now.ready).pass; on_top = on_top (goal.at.put_if-requires c).In-loop-p; record_size_in_bounds = filled_room _ _ _ _ _ _ _ _ _ _ _ _ _ c.loop-p.invariant.0 c.reach-run.ensures.leads.some c.reach-run.ensures.leads.inside _ (view_from_more _ _ _ _ _ _ _ _ c.reach-run.ensures.leads (c.shown.ensures ∙ shown_wanted _ _ _ _ (on_top (goal.at.put_if-requires c).In-loop-p)) c.if-shown.true refl) }
 
 pub overflow_add-at : goal.overflow_add-at
 unfolding chunk

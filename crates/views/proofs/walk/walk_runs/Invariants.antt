@@ -10,7 +10,7 @@ use Rattle.runs.proofs.Laws.Loops.{Filled}
 use Rattle.views.proofs.walk.walk_runs.Given as goal
 
 abbrev pub invariant-loop-p : goal.invariant-loop-p
-invariant-loop-p l = Filled (λ q. view_from l.all (records l.list) q l.end) 0 l.end 0 encode record_size length-encode l.write l.initial.out l.out l.p l.at × (l.p < l.end → Holds l.marks l.m l.k l.p)
+invariant-loop-p l = Filled (λ q. view_from l.all (records l.r.list.now) q l.end) 0 l.end 0 encode record_size length-encode l.write l.initial.out l.out l.p l.at × (l.p < l.end → Holds l.r.marks.now l.r.segments l.k l.p)
 
 abbrev pub decreases-loop-p : goal.decreases-loop-p
 decreases-loop-p l = l.end - l.p
