@@ -31,16 +31,7 @@ fn digit_at(text: &[u8], i: usize) -> u64
 fn opens(d: u64, least: u64, most: u64) -> bool
     ensures { result ≡ (ltb d 10 && (leb (min 1 least) d && leb d most)) }
 {
-    if 9 < d {
-        return false;
-    }
-    if d < 1 {
-        if 0 < least {
-            return false;
-        }
-        return d <= most;
-    }
-    d <= most
+    d < 10 && least.min(1) <= d && d <= most
 }
 
 // Whether value may be followed by the digit d.
