@@ -1,7 +1,7 @@
 -- What a piece's own numbers tell. Assumes nothing.
 use Prim.Native.Nat.{ℕ, ◌+◌, ◌-◌, ◌/◌, ◌%◌, ◌<◌, ◌≤◌}
 use native.Mathlib.Omega.{arith}
-use native.Mathlib.Decide.{dec_le, ℕ_discrete}
+use native.Mathlib.Decide.{dec_le}
 use mathlib.Core.Path.{◌≡◌, refl, sym, ap, ◌∙◌}
 use mathlib.Core.Logic.{◌≢◌}
 use mathlib.Core.Bool.{Bool, true, false, ◌&&◌, not, false≢true, true≢false}
@@ -119,17 +119,6 @@ module _ (first from n : ℕ) (p : Piece) where
       }
 
 -- ---- piece by piece
-
-module _ (first from n : ℕ) (plan : List ℕ) (i : ℕ) {p : Piece} (t : Bool) (read : p ≡ piece_at plan i) (told : t ≡ formed first from n p) where
-  pub form_told : formed first from n (piece_at plan i) ≡ t
-  form_told = ap (formed first from n) (sym read) ∙ sym told
-
-  pub formed_more : t ≡ true → Formed first from n plan i → Formed first from n plan (i + 1)
-  formed_more h before j l = go (ℕ_discrete j i)
-    where
-      go : Dec (j ≡ i) → formed first from n (piece_at plan j) ≡ true
-      go (yes e) = rw e (form_told ∙ h)
-      go (no e) = before j (omega arith)
 
 -- what the numbers of one of them tell
 pub form_read : (first from n : ℕ) (plan : List ℕ) (r i : ℕ) → Formed first from n plan r → i < r → {p : Piece} → p ≡ piece_at plan i → Form first from n p
