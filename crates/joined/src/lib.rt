@@ -8,7 +8,6 @@ ghost use Rattle.joined.specs.Lists.{total, parts};
 ghost use Rattle.joined.specs.Refusals.{lists_outcome, checked_lists};
 
 pub use refusal::ListRefusal;
-
 use slices::check;
 
 // Whether the lengths add up to so many bytes. Each is taken from what is left, so that no sum wraps.

@@ -8,10 +8,9 @@ ghost use Rattle.std.specs.Prelude.{length};
 ghost use Rattle.outcomes.specs.Outcome.{delivered};
 ghost use Rattle.outcomes.specs.Answers.{Answers};
 
+use codec::put;
 pub use kind::Kind;
 pub use refusal::Refusal;
-
-use codec::put;
 
 // Copies bytes to the front of out, if they fit there: how many they are.
 pub fn deliver(bytes: &[u8], out: &mut [u8]) -> Result<usize, Refusal>
