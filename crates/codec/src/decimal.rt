@@ -2,17 +2,18 @@
 ghost use Rattle.std.specs.Prelude.{◌≡◌, ◌+◌, ◌≤◌, ◌<◌, length};
 ghost use Rattle.codec.specs.Decimal.{max_digits, decimal};
 ghost use Rattle.codec.specs.Inner.{Puts};
-ghost use Rattle.codec.specs.Pairs.{pair, PairTable};
+ghost use Rattle.codec.specs.Pairs.{pair};
 ghost use Rattle.codec.specs.Splice.{splice};
 
+use crate::pairs::Pairs;
 use crate::{pairs, width};
 
 // The digits of the largest 64-bit number.
 pub const DIGITS: usize = 20;
 
 // Puts a number below 100 into a buffer.
-fn put_few(out: &mut [u8], at: usize, n: u64, table: &[u8])
-    requires { (n < 100) × (at + length (decimal n) ≤ length out.old) × PairTable table.now }
+fn put_few(out: &mut [u8], at: usize, n: u64, table: &Pairs)
+    requires { (n < 100) × (at + length (decimal n) ≤ length out.old) }
     ensures { out.new ≡ splice out.old at (decimal n) }
 {
     if 9 < n {
@@ -23,8 +24,8 @@ fn put_few(out: &mut [u8], at: usize, n: u64, table: &[u8])
 }
 
 // Puts a number below 10,000 into a buffer, where it ends at `end`.
-fn put_rest(out: &mut [u8], at: usize, end: usize, n: u64, table: &[u8])
-    requires { (n < 10000) × (end ≡ at + length (decimal n)) × (end ≤ length out.old) × PairTable table.now }
+fn put_rest(out: &mut [u8], at: usize, end: usize, n: u64, table: &Pairs)
+    requires { (n < 10000) × (end ≡ at + length (decimal n)) × (end ≤ length out.old) }
     ensures { out.new ≡ splice out.old at (decimal n) }
 {
     if n < 100 {
@@ -38,8 +39,8 @@ fn put_rest(out: &mut [u8], at: usize, end: usize, n: u64, table: &[u8])
 
 // Puts n, which has so many digits, into a buffer, and answers the place after it: four digits a turn, from the last. A turn divides twice,
 // and what is left is divided once if it has more than two digits: once for each two digits.
-pub fn put_digits(out: &mut [u8], at: usize, n: u64, width: usize, table: &[u8]) -> usize
-    requires { (width ≡ length (decimal n)) × (at + width ≤ length out.old) × PairTable table.now }
+pub fn put_digits(out: &mut [u8], at: usize, n: u64, width: usize, table: &Pairs) -> usize
+    requires { (width ≡ length (decimal n)) × (at + width ≤ length out.old) }
     ensures { Puts out.old at (decimal n) width result out.new }
 {
     let mut end = at + width;
@@ -55,8 +56,8 @@ pub fn put_digits(out: &mut [u8], at: usize, n: u64, width: usize, table: &[u8])
 }
 
 // Puts the two digits of n, below 100, at three places of a buffer, each behind the one before.
-fn put_pair_thrice(out: &mut [u8], a: usize, b: usize, c: usize, n: u64, table: &[u8])
-    requires { (n < 100) × (a + 2 ≤ b) × (b + 2 ≤ c) × (c + 2 ≤ length out.old) × PairTable table.now }
+fn put_pair_thrice(out: &mut [u8], a: usize, b: usize, c: usize, n: u64, table: &Pairs)
+    requires { (n < 100) × (a + 2 ≤ b) × (b + 2 ≤ c) × (c + 2 ≤ length out.old) }
     ensures { out.new ≡ splice (splice (splice out.old c (pair n)) b (pair n)) a (pair n) }
 {
     pairs::put_pair(out, c, n, table);
@@ -65,8 +66,8 @@ fn put_pair_thrice(out: &mut [u8], a: usize, b: usize, c: usize, n: u64, table: 
 }
 
 // Puts n, which has so many digits, at three places of a buffer, each behind the one before: it is divided once for all three.
-pub fn put_thrice(out: &mut [u8], a: usize, b: usize, c: usize, n: u64, width: usize, table: &[u8])
-    requires { (width ≡ length (decimal n)) × (a + width ≤ b) × (b + width ≤ c) × (c + width ≤ length out.old) × PairTable table.now }
+pub fn put_thrice(out: &mut [u8], a: usize, b: usize, c: usize, n: u64, width: usize, table: &Pairs)
+    requires { (width ≡ length (decimal n)) × (a + width ≤ b) × (b + width ≤ c) × (c + width ≤ length out.old) }
     ensures { out.new ≡ splice (splice (splice out.old c (decimal n)) b (decimal n)) a (decimal n) }
 {
     let mut i = width;

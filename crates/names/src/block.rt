@@ -2,7 +2,6 @@
 ghost use Rattle.std.specs.Prelude.{◌≡◌, [], ◌+◌, ◌*◌, ◌≤◌, min, max, length};
 ghost use Rattle.codec.specs.Decimal.{max_digits};
 ghost use Rattle.codec.specs.Inner.{Puts};
-ghost use Rattle.codec.specs.Pairs.{PairTable};
 ghost use Rattle.texts.specs.Parts.{onward, scan};
 ghost use Rattle.names.specs.Inner.{name_length, Widths};
 ghost use Rattle.texts.specs.Calls.{reading};
@@ -10,6 +9,7 @@ ghost use Rattle.names.specs.Names.{name_form, object_of, object_answer, object_
 
 use crate::{ObjectName, limits, slice};
 use codec::decimal;
+use codec::pairs::Pairs;
 use codec::scan::Step;
 use outcomes::{Kind, Refusal};
 use texts::{MAX_NUMBER, scan, text};
@@ -94,9 +94,9 @@ pub(crate) fn put(
     i: usize,
     b: usize,
     s: usize,
-    table: &[u8],
+    table: &Pairs,
 ) -> usize
-    requires { Widths id block size i b s × (at + length (object_name id block size) ≤ length out.old) × PairTable table.now }
+    requires { Widths id block size i b s × (at + length (object_name id block size) ≤ length out.old) }
     ensures { Puts out.old at (object_name id block size) (length (object_name id block size)) result out.new }
 {
     let next = text::put_word(out, at, b"chunks/");

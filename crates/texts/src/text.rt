@@ -2,8 +2,8 @@
 ghost use Rattle.std.specs.Prelude.{◌≡◌, ◌++◌, ◌+◌, ◌≤◌, length};
 ghost use Rattle.codec.specs.Decimal.{decimal};
 ghost use Rattle.codec.specs.Inner.{Puts};
-ghost use Rattle.codec.specs.Pairs.{PairTable};
 
+use codec::pairs::Pairs;
 use codec::{decimal, put};
 
 // Puts a word into a buffer.
@@ -20,10 +20,10 @@ pub fn put_number_word(
     at: usize,
     n: u64,
     width: usize,
-    table: &[u8],
+    table: &Pairs,
     word: &[u8],
 ) -> usize
-    requires { (width ≡ length (decimal n)) × (at + (width + length word.now) ≤ length out.old) × PairTable table.now }
+    requires { (width ≡ length (decimal n)) × (at + (width + length word.now) ≤ length out.old) }
     ensures { Puts out.old at (decimal n ++ word.now) (width + length word.now) result out.new }
 {
     let end = decimal::put_digits(out, at, n, width, table);

@@ -14,7 +14,7 @@ put_word-at-requires c = omega (arith, full-length c.args.id c.args.block c.args
 
 pub put-requires : goal.put-requires
 put-requires c =
-    (c.requires.0, omega (arith, full-length c.args.id c.args.block c.args.size c.args.volume.now, c.requires.1), c.table-table.ensures)
+    (c.requires.0, omega (arith, full-length c.args.id c.args.block c.args.size c.args.volume.now, c.requires.1))
 
 pub returns : goal.returns
 unfolding full_name

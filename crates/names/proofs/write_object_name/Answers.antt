@@ -22,7 +22,7 @@ pub put-requires : goal.put-requires
 put-requires c =
     let a = c.args in
     let w : Widths a.id a.block a.size _ _ _ = record { of_id = c.digits-i.ensures.0; of_block = c.digits-b.ensures.0; of_size = c.digits-s.ensures.0 } in
-    (w, omega (arith, name_length_lem a.id a.block a.size w, c.length-n.ensures.0, c.if-out-n.false), c.table-table.ensures)
+    (w, omega (arith, name_length_lem a.id a.block a.size w, c.length-n.ensures.0, c.if-out-n.false))
 
 pub returns : goal.returns
 returns c =

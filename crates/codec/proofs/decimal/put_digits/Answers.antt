@@ -20,7 +20,7 @@ overflow_mul-next c = omega (arith, c.ranges.n)
 
 pub put_four-requires : goal.put_four-requires
 put_four-requires c =
-    (omega arith, omega (arith, overflow_sub-end (goal.at.put_four-requires c).In-loop-rest, c.loop-rest.invariant.2), c.requires.2)
+    (omega arith, omega (arith, overflow_sub-end (goal.at.put_four-requires c).In-loop-rest, c.loop-rest.invariant.2))
 
 pub loop-rest-preserved : goal.loop-rest-preserved
 loop-rest-preserved c =
@@ -35,7 +35,7 @@ loop-rest-preserved c =
     )
 
 pub put_rest-requires : goal.put_rest-requires
-put_rest-requires c = (omega arith, c.loop-rest.invariant.0, c.loop-rest.invariant.2, c.requires.2)
+put_rest-requires c = (omega arith, c.loop-rest.invariant.0, c.loop-rest.invariant.2)
 
 pub shape_of-out : goal.shape_of-out
 shape_of-out c = c.put_rest.auto.out ∙ c.loop-rest.invariant.1

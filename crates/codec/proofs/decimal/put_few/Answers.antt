@@ -9,7 +9,7 @@ use native.Mathlib.Omega.{arith}
 use Rattle.codec.proofs.decimal.put_few.Goals as goal
 
 pub put_pair-requires : goal.put_pair-requires
-put_pair-requires c = (omega arith, omega (arith, decimal_two c.args.n c.if-n-gt9.true), c.requires.2)
+put_pair-requires c = (omega arith, omega (arith, decimal_two c.args.n c.if-n-gt9.true))
 
 pub returns-then-n-gt9 : goal.returns-then-n-gt9
 returns-then-n-gt9 c =

@@ -12,11 +12,11 @@ pub overflow_sub-end : goal.overflow_sub-end
 overflow_sub-end c = omega (arith, c.requires.1, pairs_width c.args.n (omega arith))
 
 pub put_pair-requires : goal.put_pair-requires
-put_pair-requires c = (omega arith, omega (arith, overflow_sub-end c), c.requires.3)
+put_pair-requires c = (omega arith, omega (arith, overflow_sub-end c))
 
 pub put_few-requires-2 : goal.put_few-requires-2
 put_few-requires-2 c =
-    (omega arith, omega (arith, c.requires.1, c.requires.2, pairs_width c.args.n (omega arith), c.put_pair.auto.out), c.requires.3)
+    (omega arith, omega (arith, c.requires.1, c.requires.2, pairs_width c.args.n (omega arith), c.put_pair.auto.out))
 
 pub returns : goal.returns
 returns c =

@@ -31,9 +31,7 @@ put_pair_thrice-requires c =
       omega arith,
       omega (arith, n, c.loop-rest.invariant.1, c.requires.1),
       omega (arith, n, c.loop-rest.invariant.1, c.requires.2),
-      omega (arith, n, c.loop-rest.invariant.1, c.loop-rest.invariant.2, c.requires.3),
-      c.requires.4,
-    )
+      omega (arith, n, c.loop-rest.invariant.1, c.loop-rest.invariant.2, c.requires.3))
 
 pub loop-rest-preserved : goal.loop-rest-preserved
 loop-rest-preserved c =
@@ -51,17 +49,17 @@ loop-rest-preserved c =
 pub put_few-requires : goal.put_few-requires
 put_few-requires c =
     let v = c.loop-rest.invariant in
-    (omega arith, omega (arith, v.0, v.1, v.2, c.requires.3), c.requires.4)
+    (omega arith, omega (arith, v.0, v.1, v.2, c.requires.3))
 
 pub put_few-requires-2 : goal.put_few-requires-2
 put_few-requires-2 c =
     let v = c.loop-rest.invariant in
-    (omega arith, omega (arith, v.0, v.1, v.2, c.requires.2, c.requires.3, c.put_few.auto.out), c.requires.4)
+    (omega arith, omega (arith, v.0, v.1, v.2, c.requires.2, c.requires.3, c.put_few.auto.out))
 
 pub put_few-requires-3 : goal.put_few-requires-3
 put_few-requires-3 c =
     let v = c.loop-rest.invariant in
-    (omega arith, omega (arith, v.0, v.1, v.2, c.requires.1, c.requires.2, c.requires.3, c.put_few.auto.out, c.put_few-2.auto.out), c.requires.4)
+    (omega arith, omega (arith, v.0, v.1, v.2, c.requires.1, c.requires.2, c.requires.3, c.put_few.auto.out, c.put_few-2.auto.out))
 
 pub shape_of-out : goal.shape_of-out
 shape_of-out c = c.put_few-3.auto.out ∙ c.put_few-2.auto.out ∙ c.put_few.auto.out ∙ c.loop-rest.invariant.2

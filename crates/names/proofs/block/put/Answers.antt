@@ -11,7 +11,7 @@ put_word-next-requires c =
 
 pub put-bar-requires : goal.put-bar-requires
 put-bar-requires c =
-    (c.requires.0.of_id, omega (arith, parts-length c.args.id c.args.block c.args.size, c.requires.0.of_block, c.requires.0.of_size, c.requires.1), c.requires.2)
+    (c.requires.0.of_id, omega (arith, parts-length c.args.id c.args.block c.args.size, c.requires.0.of_block, c.requires.0.of_size, c.requires.1))
 
 pub put_word-second-requires : goal.put_word-second-requires
 put_word-second-requires c =
@@ -19,11 +19,11 @@ put_word-second-requires c =
 
 pub put_number_word-third-requires : goal.put_number_word-third-requires
 put_number_word-third-requires c =
-    (c.requires.0.of_block, omega (arith, parts-length c.args.id c.args.block c.args.size, c.requires.0.of_block, c.requires.0.of_size, c.requires.1), c.requires.2)
+    (c.requires.0.of_block, omega (arith, parts-length c.args.id c.args.block c.args.size, c.requires.0.of_block, c.requires.0.of_size, c.requires.1))
 
 pub put_digits-requires : goal.put_digits-requires
 put_digits-requires c =
-    (c.requires.0.of_size, omega (arith, parts-length c.args.id c.args.block c.args.size, c.requires.0.of_block, c.requires.0.of_size, c.requires.1), c.requires.2)
+    (c.requires.0.of_size, omega (arith, parts-length c.args.id c.args.block c.args.size, c.requires.0.of_block, c.requires.0.of_size, c.requires.1))
 
 pub returns : goal.returns
 returns c =

@@ -24,11 +24,11 @@ put_word-a-requires c =
 pub put_number_word-b-requires : goal.put_number_word-b-requires
 put_number_word-b-requires c =
     let t = thousands (goal.at.put_number_word-b-requires c).After-thousandth-thousands in
-    (t, omega (arith, slice_length c.args.id, ap length (no_millions c.args.id (omega (arith, c.requires.0, c.requires.1))), t, c.requires.2), c.requires.3)
+    (t, omega (arith, slice_length c.args.id, ap length (no_millions c.args.id (omega (arith, c.requires.0, c.requires.1))), t, c.requires.2))
 
 pub put_digits-requires : goal.put_digits-requires
 put_digits-requires c =
-    (c.requires.1, omega (arith, slice_length c.args.id, ap length (no_millions c.args.id (omega (arith, c.requires.0, c.requires.1))), thousands (goal.at.put_digits-requires c).After-thousandth-thousands, c.requires.1, c.requires.2), c.requires.3)
+    (c.requires.1, omega (arith, slice_length c.args.id, ap length (no_millions c.args.id (omega (arith, c.requires.0, c.requires.1))), thousands (goal.at.put_digits-requires c).After-thousandth-thousands, c.requires.1, c.requires.2))
 
 pub returns : goal.returns
 returns c =
