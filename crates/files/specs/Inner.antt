@@ -18,6 +18,10 @@ pub record Room (n : ℕ) (marks tops pos ends order spare : List ℕ) : Type 0 
 abbrev pub Resolvable : (marks tops pos ends order spare : List ℕ) → List ℕ → Type 0
 Resolvable marks tops pos ends order spare l = Accepts l × Room (count l) marks tops pos ends order spare
 
+-- a list that is accepted, of at most n records
+abbrev pub Fits : ℕ → List ℕ → Type 0
+Fits n l = Accepts l × (count l ≤ n)
+
 -- the bytes of the plan of lists, of which the first is that of chunk k, for the positions from `from` up to `end`
 abbrev pub bytes_of : (first B from end k : ℕ) → List (List ℕ) → List ℕ
 bytes_of first B from end k ls = encode_pieces (chunk_plans first B from end k (map records ls))

@@ -17,6 +17,7 @@ use blocks::bits_of;
 use joined::ListRefusal;
 use outcomes::Kind;
 use plans::PIECE;
+use resolve::room::Room;
 use slices::RECORD;
 
 // Whether a buffer of so many bytes has room for all pieces that can come: four a record, two a list, and one a block.
@@ -44,7 +45,7 @@ fn sized<const N: usize, const MARKS: usize, const TOPS: usize>(
     requires lists_len_bound { N < max_records → length lists.now ≤ N * record_size }
     requires lengths_len_bound { (length lengths.now ≤ max_lists) × (first + length lengths.now ≤ 2 ^ 32) × Shifts block bits }
     requires lists_in_bounds { write ≡ true → length (bytes_of first block from end 0 (parts lengths.now lists.now)) ≤ length out.old }
-    requires room { (N ≤ max_records) × (MARKS ≡ N + N + 2) × (TOPS ≡ N + N + 1) }
+    requires room { (0 < N) × (N ≤ max_records) × (MARKS ≡ N + N + 2) × (TOPS ≡ N + N + 1) }
     ensures value { result ≡ length (bytes_of first block from end 0 (parts lengths.now lists.now)) }
     ensures out_after { out.new ≡ cond write (splice out.old 0 (bytes_of first block from end 0 (parts lengths.now lists.now))) out.old }
 {
@@ -54,9 +55,17 @@ fn sized<const N: usize, const MARKS: usize, const TOPS: usize>(
     let mut ends = [0u32; N];
     let mut order = [0u16; N];
     let mut spare = [0u16; N];
+    let mut room = Room {
+        records: N,
+        marks: &mut marks,
+        tops: &mut tops,
+        pos: &mut pos,
+        ends: &mut ends,
+        order: &mut order,
+        spare: &mut spare,
+    };
     walk::walk_lists(
-        lists, lengths, first, from, end, block, bits, write, out, &mut marks, &mut tops, &mut pos,
-        &mut ends, &mut order, &mut spare,
+        lists, lengths, first, from, end, block, bits, write, out, &mut room,
     )
 }
 

@@ -9,11 +9,11 @@ ghost use Rattle.plans.specs.Inner.{Shifts};
 ghost use Rattle.plans.specs.Piece.{encode_pieces};
 ghost use Rattle.files.specs.Limits.{max_lists};
 ghost use Rattle.files.specs.File.{chunk_plan};
-ghost use Rattle.files.specs.Inner.{Resolvable, bytes_of};
+ghost use Rattle.files.specs.Inner.{Fits, bytes_of};
 
 use crate::parts;
 use plans::walk;
-use resolve::segments::Resolved;
+use resolve::room::Room;
 
 // Writes the pieces of the k-th chunk's positions into a buffer that has room for them, from `start` on, or only counts their bytes; where they end.
 fn walk_list(
@@ -27,31 +27,22 @@ fn walk_list(
     write: bool,
     out: &mut [u8],
     start: usize,
-    marks: &mut [u32],
-    tops: &mut [u16],
-    pos: &mut [u64],
-    ends: &mut [u32],
-    order: &mut [u16],
-    spare: &mut [u16],
+    room: &mut Room,
 ) -> usize
-    requires resolvable { Resolvable marks.old tops.old pos.old ends.old order.old spare.old list.now }
+    requires resolvable { Fits room.old.records list.now }
     requires k_lt_max_lists { (k < max_lists) × (first + k < 2 ^ 32) × (start ≤ 2 ^ 40) × Shifts block bits }
     requires list_in_bounds { write ≡ true → start + length (encode_pieces (chunk_plan first block from end k (records list.now))) ≤ length out.old }
     ensures value { result ≡ start + length (encode_pieces (chunk_plan first block from end k (records list.now))) }
     ensures out_after { out.new ≡ cond write (splice out.old start (encode_pieces (chunk_plan first block from end k (records list.now)))) out.old }
+    ensures room_after { room.new.records ≡ room.old.records }
 {
     let part = parts::part(from, end, k);
     if part.end <= part.from {
         return start;
     }
-    let segments = resolve::resolve(list, marks, tops, pos, ends, order, spare);
+    let segments = room.resolve(list);
     let front = (first + k) as u64 * 4294967296 + parts::places_before(from, k) as u64;
-    let r = Resolved {
-        list,
-        marks,
-        tops,
-        segments,
-    };
+    let r = room.resolved(list, segments);
     walk::walk_pieces(
         &r, part.from, part.end, block, bits, front, write, out, start,
     )
@@ -68,14 +59,9 @@ pub(crate) fn walk_lists(
     bits: u32,
     write: bool,
     out: &mut [u8],
-    marks: &mut [u32],
-    tops: &mut [u16],
-    pos: &mut [u64],
-    ends: &mut [u32],
-    order: &mut [u16],
-    spare: &mut [u16],
+    room: &mut Room,
 ) -> usize
-    requires lengths_value { (total lengths.now ≡ length lists.now) × All (Resolvable marks.old tops.old pos.old ends.old order.old spare.old) (parts lengths.now lists.now) }
+    requires lengths_value { (total lengths.now ≡ length lists.now) × All (Fits room.old.records) (parts lengths.now lists.now) }
     requires lengths_len_bound { (length lengths.now ≤ max_lists) × (first + length lengths.now ≤ 2 ^ 32) × Shifts block bits }
     requires lists_in_bounds { write ≡ true → length (bytes_of first block from end 0 (parts lengths.now lists.now)) ≤ length out.old }
     ensures value { result ≡ length (bytes_of first block from end 0 (parts lengths.now lists.now)) }
@@ -97,12 +83,7 @@ pub(crate) fn walk_lists(
             write,
             out,
             to,
-            marks,
-            tops,
-            pos,
-            ends,
-            order,
-            spare,
+            room,
         );
         at = stop;
         k += 1;

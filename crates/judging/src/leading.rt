@@ -7,12 +7,13 @@ ghost use Rattle.plans.specs.Piece.{piece_size};
 ghost use Rattle.codec.specs.All.{All};
 ghost use Rattle.joined.specs.Lists.{total, parts};
 ghost use Rattle.plans.specs.declared.Piece.{Piece};
-ghost use Rattle.files.specs.Inner.{Resolvable};
+ghost use Rattle.files.specs.Inner.{Fits};
 ghost use Rattle.files.specs.Limits.{max_lists};
 ghost use Rattle.judging.specs.Inner.{formed, chunk_of, Led, Leads};
 
 use crate::{pieces, places};
 use plans::{PIECE, Piece};
+use resolve::room::Room;
 use resolve::segments::Resolved;
 use slices::CHUNK;
 
@@ -96,26 +97,17 @@ fn lead_list(
     bits: u32,
     plan: &[u8],
     start: Lead,
-    marks: &mut [u32],
-    tops: &mut [u16],
-    pos: &mut [u64],
-    ends: &mut [u32],
-    order: &mut [u16],
-    spare: &mut [u16],
+    room: &mut Room,
 ) -> Lead
-    requires resolvable { Resolvable marks.old tops.old pos.old ends.old order.old spare.old list.now }
+    requires resolvable { Fits room.old.records list.now }
     requires n_bound { (from + n ≤ 2 ^ 30) × Shifts block bits }
     requires number_in_bounds { (start.number ≤ length plan.now / piece_size) × (start.place ≤ n) × InOrder plan.now start.number start.place }
-    ensures { Leads first from n block k (records list.now) plan.now start.number result.number result.place }
+    ensures leads { Leads first from n block k (records list.now) plan.now start.number result.number result.place }
+    ensures room_after { room.new.records ≡ room.old.records }
 {
     if is_next(plan, start.number, start.place, k, first, from, n) {
-        let segments = resolve::resolve(list, marks, tops, pos, ends, order, spare);
-        let r = Resolved {
-            list,
-            marks,
-            tops,
-            segments,
-        };
+        let segments = room.resolve(list);
+        let r = room.resolved(list, segments);
         return lead_on(&r, k, first, from, n, block, bits, plan, start);
     }
     start
@@ -131,14 +123,9 @@ pub(crate) fn lead_all(
     block: u32,
     bits: u32,
     plan: &[u8],
-    marks: &mut [u32],
-    tops: &mut [u16],
-    pos: &mut [u64],
-    ends: &mut [u32],
-    order: &mut [u16],
-    spare: &mut [u16],
+    room: &mut Room,
 ) -> Lead
-    requires lengths_value { (total lengths.now ≡ length lists.now) × All (Resolvable marks.old tops.old pos.old ends.old order.old spare.old) (parts lengths.now lists.now) }
+    requires lengths_value { (total lengths.now ≡ length lists.now) × All (Fits room.old.records) (parts lengths.now lists.now) }
     requires lengths_len_bound { (length lengths.now ≤ max_lists) × (from + n ≤ 2 ^ 30) × Shifts block bits }
     ensures { Led first from n block (parts lengths.now lists.now) plan.now result.number result.place }
 {
@@ -160,12 +147,7 @@ pub(crate) fn lead_all(
             bits,
             plan,
             led,
-            marks,
-            tops,
-            pos,
-            ends,
-            order,
-            spare,
+            room,
         );
         at = stop;
         k += 1;

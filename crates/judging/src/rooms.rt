@@ -5,13 +5,14 @@ ghost use Rattle.slices.specs.Accepts.{Accepts};
 ghost use Rattle.slices.specs.Limits.{chunk, max_records, record_size};
 ghost use Rattle.joined.specs.Lists.{total, parts};
 ghost use Rattle.plans.specs.Inner.{Shifts};
-ghost use Rattle.files.specs.Inner.{Resolvable};
+ghost use Rattle.files.specs.Inner.{Fits};
 ghost use Rattle.files.specs.Limits.{max_lists};
 ghost use Rattle.judging.specs.Inner.{Worked};
 
 use crate::leading::Lead;
 use crate::{leading, sifting};
 use plans::PIECE;
+use resolve::room::Room;
 use slices::RECORD;
 
 // Finds the pieces at the front that stand in order; or the number of the first whole piece that is wrong in itself, and, where there is neither such a piece nor a
@@ -26,34 +27,25 @@ fn work(
     bits: u32,
     plan: &[u8],
     lead: bool,
-    marks: &mut [u32],
-    tops: &mut [u16],
-    pos: &mut [u64],
-    ends: &mut [u32],
-    order: &mut [u16],
-    spare: &mut [u16],
+    room: &mut Room,
 ) -> Lead
-    requires lengths_value { (total lengths.now ≡ length lists.now) × All (Resolvable marks.old tops.old pos.old ends.old order.old spare.old) (parts lengths.now lists.now) }
+    requires lengths_value { (total lengths.now ≡ length lists.now) × All (Fits room.old.records) (parts lengths.now lists.now) }
     requires lengths_len_bound { (length lengths.now ≤ max_lists) × (from + n ≤ length lengths.now * chunk) × Shifts block bits }
-    requires pos_nonzero { (0 < length pos.old) × (length pos.old < 2 ^ 16) × (length pos.old ≤ length order.old) × (length pos.old ≤ length spare.old) }
     ensures { Worked lead first from n block (parts lengths.now lists.now) plan.now result.number result.place }
 {
     if lead {
-        return leading::lead_all(
-            lists, lengths, first, from, n, block, bits, plan, marks, tops, pos, ends, order, spare,
-        );
+        return leading::lead_all(lists, lengths, first, from, n, block, bits, plan, room);
     }
     let limit = sifting::first_misformed(plan, first, from, n);
     let number = sifting::sift_all(
-        lists, lengths, first, from, n, block, bits, plan, limit, marks, tops, pos, ends, order,
-        spare,
+        lists, lengths, first, from, n, block, bits, plan, limit, room,
     );
     if number * PIECE < plan.len() {
         return Lead { number, place: 0 };
     }
     Lead {
         number,
-        place: coverage::first_not_once(plan, n, pos, order, spare),
+        place: coverage::first_not_once(plan, n, room.pos, room.order, room.spare),
     }
 }
 
@@ -82,9 +74,17 @@ fn sized<const N: usize, const WINDOW: usize, const MARKS: usize, const TOPS: us
     let mut ends = [0u32; N];
     let mut order = [0u16; WINDOW];
     let mut spare = [0u16; WINDOW];
+    let mut room = Room {
+        records: N,
+        marks: &mut marks,
+        tops: &mut tops,
+        pos: &mut pos,
+        ends: &mut ends,
+        order: &mut order,
+        spare: &mut spare,
+    };
     work(
-        lists, lengths, first, from, n, block, bits, plan, lead, &mut marks, &mut tops, &mut pos,
-        &mut ends, &mut order, &mut spare,
+        lists, lengths, first, from, n, block, bits, plan, lead, &mut room,
     )
 }
 

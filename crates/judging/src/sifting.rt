@@ -5,13 +5,14 @@ ghost use Rattle.plans.specs.Inner.{Shifts};
 ghost use Rattle.plans.specs.Piece.{piece_size};
 ghost use Rattle.codec.specs.All.{All};
 ghost use Rattle.joined.specs.Lists.{total, parts};
-ghost use Rattle.files.specs.Inner.{Resolvable};
+ghost use Rattle.files.specs.Inner.{Fits};
 ghost use Rattle.files.specs.Limits.{max_lists};
 ghost use Rattle.judging.specs.Inner.{piece_at, formed, Formed, Sifts, Sifted};
 
 use crate::{pieces, places};
 use files::parts;
 use plans::PIECE;
+use resolve::room::Room;
 use resolve::segments::Resolved;
 use slices::CHUNK;
 
@@ -74,29 +75,20 @@ fn sift_list(
     bits: u32,
     plan: &[u8],
     limit: usize,
-    marks: &mut [u32],
-    tops: &mut [u16],
-    pos: &mut [u64],
-    ends: &mut [u32],
-    order: &mut [u16],
-    spare: &mut [u16],
+    room: &mut Room,
 ) -> usize
-    requires resolvable { Resolvable marks.old tops.old pos.old ends.old order.old spare.old list.now }
+    requires resolvable { Fits room.old.records list.now }
     requires k_lt_max_lists { (k < max_lists) × (from + n ≤ 2 ^ 30) × Shifts block bits }
     requires limit_in_bounds { (limit ≤ length plan.now / piece_size) × Formed first from n plan.now limit }
-    ensures { Sifts from block k (records list.now) plan.now limit result }
+    ensures sifts { Sifts from block k (records list.now) plan.now limit result }
+    ensures room_after { room.new.records ≡ room.old.records }
 {
     let part = parts::part(from, from + n, k);
     if part.end <= part.from {
         return limit;
     }
-    let segments = resolve::resolve(list, marks, tops, pos, ends, order, spare);
-    let r = Resolved {
-        list,
-        marks,
-        tops,
-        segments,
-    };
+    let segments = room.resolve(list);
+    let r = room.resolved(list, segments);
     sift_on(&r, k, first, from, n, block, bits, plan, limit)
 }
 
@@ -111,14 +103,9 @@ pub(crate) fn sift_all(
     bits: u32,
     plan: &[u8],
     limit: usize,
-    marks: &mut [u32],
-    tops: &mut [u16],
-    pos: &mut [u64],
-    ends: &mut [u32],
-    order: &mut [u16],
-    spare: &mut [u16],
+    room: &mut Room,
 ) -> usize
-    requires lengths_value { (total lengths.now ≡ length lists.now) × All (Resolvable marks.old tops.old pos.old ends.old order.old spare.old) (parts lengths.now lists.now) }
+    requires lengths_value { (total lengths.now ≡ length lists.now) × All (Fits room.old.records) (parts lengths.now lists.now) }
     requires lengths_len_bound { (length lengths.now ≤ max_lists) × (from + n ≤ 2 ^ 30) × Shifts block bits }
     requires limit_in_bounds { (limit ≤ length plan.now / piece_size) × Formed first from n plan.now limit }
     ensures { Sifted first from n block (parts lengths.now lists.now) plan.now limit result }
@@ -138,12 +125,7 @@ pub(crate) fn sift_all(
             bits,
             plan,
             left,
-            marks,
-            tops,
-            pos,
-            ends,
-            order,
-            spare,
+            room,
         );
         at = stop;
         k += 1;

@@ -2,6 +2,7 @@
 #![tactic(auto)]
 
 mod order;
+pub mod room;
 pub mod segments;
 mod set;
 mod sweep;

@@ -4,11 +4,11 @@ ghost use Rattle.slices.specs.Accepts.{Accepts};
 ghost use Rattle.slices.specs.Limits.{chunk, max_records};
 ghost use Rattle.slices.specs.Record.{count};
 ghost use Rattle.plans.specs.Inner.{Shifts};
-ghost use Rattle.files.specs.Inner.{Resolvable};
+ghost use Rattle.files.specs.Inner.{Fits};
 ghost use Rattle.stepping.specs.Inner.{EndsAt};
 
 use crate::joins;
-use resolve::segments::Resolved;
+use resolve::room::Room;
 use slices::RECORD;
 
 // Where a piece ends, and the record on top of its first position, counted from 1; 0 says that there is none.
@@ -19,30 +19,13 @@ pub struct Ended {
 }
 
 // Resolves the list, and finds the piece that starts at position p.
-fn end_in(
-    list: &[u8],
-    p: u32,
-    end: u32,
-    block: u32,
-    bits: u32,
-    marks: &mut [u32],
-    tops: &mut [u16],
-    pos: &mut [u64],
-    ends: &mut [u32],
-    order: &mut [u16],
-    spare: &mut [u16],
-) -> Ended
-    requires resolvable { Resolvable marks.old tops.old pos.old ends.old order.old spare.old list.now }
+fn end_in(list: &[u8], p: u32, end: u32, block: u32, bits: u32, room: &mut Room) -> Ended
+    requires resolvable { Fits room.old.records list.now }
     requires p_lt_end { (p < end) × (end ≤ chunk) × Shifts block bits }
     ensures { EndsAt block list.now p end result.top result.end }
 {
-    let segments = resolve::resolve(list, marks, tops, pos, ends, order, spare);
-    let r = Resolved {
-        list,
-        marks,
-        tops,
-        segments,
-    };
+    let segments = room.resolve(list);
+    let r = room.resolved(list, segments);
     let k = r.find(p);
     Ended {
         end: joins::run_to(&r, k, p, end, block, bits),
@@ -60,7 +43,7 @@ pub(crate) fn sized<const N: usize, const MARKS: usize, const TOPS: usize>(
 ) -> Ended
     requires accepts { Accepts list.now × (count list.now ≤ N) }
     requires p_lt_end { (p < end) × (end ≤ chunk) × Shifts block bits }
-    requires room { (N ≤ max_records) × (MARKS ≡ N + N + 2) × (TOPS ≡ N + N + 1) }
+    requires room { (0 < N) × (N ≤ max_records) × (MARKS ≡ N + N + 2) × (TOPS ≡ N + N + 1) }
     ensures { EndsAt block list.now p end result.top result.end }
 {
     let mut marks = [0u32; MARKS];
@@ -69,10 +52,16 @@ pub(crate) fn sized<const N: usize, const MARKS: usize, const TOPS: usize>(
     let mut ends = [0u32; N];
     let mut order = [0u16; N];
     let mut spare = [0u16; N];
-    end_in(
-        list, p, end, block, bits, &mut marks, &mut tops, &mut pos, &mut ends, &mut order,
-        &mut spare,
-    )
+    let mut room = Room {
+        records: N,
+        marks: &mut marks,
+        tops: &mut tops,
+        pos: &mut pos,
+        ends: &mut ends,
+        order: &mut order,
+        spare: &mut spare,
+    };
+    end_in(list, p, end, block, bits, &mut room)
 }
 
 // In the smaller room that does.

@@ -11,7 +11,7 @@ use Rattle.slices.specs.Accepts.{Accepts}
 use Rattle.slices.specs.Limits.{record_size, max_records}
 use Rattle.slices.specs.Record.{count}
 use Rattle.joined.specs.Lists.{parts}
-use Rattle.files.specs.Inner.{Room, Resolvable}
+use Rattle.files.specs.Inner.{Room, Resolvable, Fits}
 
 -- room that is as long as before
 pub room_kept : {n : ℕ} {marks tops pos ends order spare : List ℕ} → Room n marks tops pos ends order spare → {marks' tops' pos' ends' order' spare' : List ℕ}
@@ -52,12 +52,27 @@ module _ (n : ℕ) (marks tops pos ends order spare : List ℕ) (r : Room n mark
   pub room_each : max_records ≤ n → (ls : List (List ℕ)) → All Accepts ls → All (Resolvable marks tops pos ends order spare) ls
   room_each h ls a = all_map Accepts (Resolvable marks tops pos ends order spare) (λ l p. (p, room_fewer (count l) (omega (arith, p.few)))) ls a
 
-  -- lists that have together as many, where there is not room for the most
-  pub room_for : (ns bs : List ℕ) → (n < max_records → length bs ≤ n * record_size) → All Accepts (parts ns bs)
-      → All (Resolvable marks tops pos ends order spare) (parts ns bs)
-  room_for ns bs h a =
-      elim (dec_lt n max_records) [ yes f ↦ room_together ns bs (h f) a | no f ↦ room_each (omega arith) (parts ns bs) a ]
-
 -- and without their room
 pub all_accepted : (marks tops pos ends order spare : List ℕ) (ls : List (List ℕ)) → All (Resolvable marks tops pos ends order spare) ls → All Accepts ls
 all_accepted marks tops pos ends order spare ls a = all_map (Resolvable marks tops pos ends order spare) Accepts (λ l p. p.0) ls a
+
+-- ---- lists of so many records each
+
+-- lists of as many records together
+fits_together : (n : ℕ) (ns bs : List ℕ) → length bs ≤ n * record_size → All Accepts (parts ns bs) → All (Fits n) (parts ns bs)
+unfolding parts count
+fits_together n [] bs h a = tt
+fits_together n (m ∷ ns) bs h a =
+    let t : length (take m bs) ≤ length bs = simp length-take (omega arith) in
+    ((a.0, omega arith), fits_together n ns (drop m bs) (simp length-drop (omega arith)) a.1)
+
+-- lists that have together as many, where there may be more in each
+pub fits_for : (n : ℕ) (ns bs : List ℕ) → (n < max_records → length bs ≤ n * record_size) → All Accepts (parts ns bs) → All (Fits n) (parts ns bs)
+fits_for n ns bs h a =
+    elim (dec_lt n max_records) [
+      | yes f ↦ fits_together n ns bs (h f) a
+      | no f ↦ all_map Accepts (Fits n) (λ l p. (p, omega (arith, p.few))) (parts ns bs) a
+    ]
+
+pub fits_accepted : (n : ℕ) (ls : List (List ℕ)) → All (Fits n) ls → All Accepts ls
+fits_accepted n ls a = all_map (Fits n) Accepts (λ l p. p.0) ls a

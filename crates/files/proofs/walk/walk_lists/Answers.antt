@@ -1,4 +1,4 @@
--- `files::walk::walk_lists` meets its contract. The invariant: the lists before k are planned, and the rooms are as long as they were.
+-- `files::walk::walk_lists` meets its contract. The invariant: the lists before k are planned, and the room is for as many records.
 -- Assumes nothing.
 use Rattle.std.proofs.Common.{rules}
 use Prim.Native.Nat.{◌+◌, ◌≤◌}
@@ -9,13 +9,13 @@ use Rattle.joined.specs.Lists.{parts}
 use Rattle.joined.proofs.Laws.Lists.{gone_within}
 use Rattle.plans.proofs.Laws.Shifts.{shifts_some}
 use Rattle.files.proofs.Laws.Walk.{walked_start, walked_holds, walked_room, walked_more, walked_end, walked_low}
-use Rattle.files.proofs.Laws.Rooms.{room_kept, all_accepted}
+use Rattle.files.proofs.Laws.Rooms.{fits_accepted}
 use Rattle.files.proofs.walk.walk_lists.Goals as goal
 use Rattle.files.proofs.walk.walk_lists.Goals.{In-loop-k}
 
 pub loop-k-init : goal.loop-k-init
 loop-k-init c =
-    (walked_start _ _ _ _ _ _ _ _ _ c.requires.lengths_value.0 c.requires.lengths_value.1 c.requires.lists_in_bounds, refl, refl, refl, refl, refl, refl)
+    (walked_start _ _ _ _ _ _ _ _ _ c.requires.lengths_value.0 c.requires.lengths_value.1 c.requires.lists_in_bounds, refl)
 
 -- the next list lies inside the bytes
 inside : (c : In-loop-k)
@@ -34,9 +34,9 @@ walk_list-to-requires c =
     let i = c.loop-k.invariant in
     let h = c.loop-k-test.true in
     let a = c.args in
-    let accepted = all_accepted a.marks.now a.tops.now a.pos.now a.ends.now a.order.now a.spare.now (parts a.lengths.now a.lists.now) c.requires.lengths_value.1 in
+    let accepted = fits_accepted a.room.now.records (parts a.lengths.now a.lists.now) c.requires.lengths_value.1 in
     let r = walked_holds _ _ _ _ _ _ _ _ _ _ _ _ _ i.0 h _ refl in
-    record { resolvable = (r.0, room_kept r.1 i.1 i.2 i.3 i.4 i.5 i.6); k_lt_max_lists = (omega (arith, h, c.requires.lengths_len_bound.0), omega (arith, h, c.requires.lengths_len_bound.1), walked_low _ _ _ _ _ _ c.requires.lengths_value.0 accepted (shifts_some _ _ c.requires.lengths_len_bound.2) _ _ _ _ _ _ _ i.0 c.requires.lengths_len_bound.0 (omega (arith, c.ranges.end)), c.requires.lengths_len_bound.2); list_in_bounds = walked_room _ _ _ _ _ _ _ _ _ _ _ _ _ i.0 h _ refl }
+    record { resolvable = (r.0, omega (arith, r.1, i.1)); k_lt_max_lists = (omega (arith, h, c.requires.lengths_len_bound.0), omega (arith, h, c.requires.lengths_len_bound.1), walked_low _ _ _ _ _ _ c.requires.lengths_value.0 accepted (shifts_some _ _ c.requires.lengths_len_bound.2) _ _ _ _ _ _ _ i.0 c.requires.lengths_len_bound.0 (omega (arith, c.ranges.end)), c.requires.lengths_len_bound.2); list_in_bounds = walked_room _ _ _ _ _ _ _ _ _ _ _ _ _ i.0 h _ refl }
 
 pub overflow_add-k : goal.overflow_add-k
 overflow_add-k c = omega (arith, c.loop-k-test.true, c.requires.lengths_len_bound.0)
@@ -44,28 +44,10 @@ overflow_add-k c = omega (arith, c.loop-k-test.true, c.requires.lengths_len_boun
 pub loop-k-preserved : goal.loop-k-preserved
 loop-k-preserved c =
     let i = c.loop-k.invariant in
-    (walked_more _ _ _ _ _ _ _ _ _ _ _ _ _ i.0 c.loop-k-test.true _ refl _ _ c.walk_list-to.ensures.value c.walk_list-to.ensures.out_after, search rules, search rules, search rules, search rules, search rules, search rules)
+    (walked_more _ _ _ _ _ _ _ _ _ _ _ _ _ i.0 c.loop-k-test.true _ refl _ _ c.walk_list-to.ensures.value c.walk_list-to.ensures.out_after, search rules)
 
 pub shape_of-out : goal.shape_of-out
 shape_of-out c = c.loop-k.invariant.0.puts.same
-
-pub shape_of-marks : goal.shape_of-marks
-shape_of-marks c = c.loop-k.invariant.1
-
-pub shape_of-tops : goal.shape_of-tops
-shape_of-tops c = c.loop-k.invariant.2
-
-pub shape_of-pos : goal.shape_of-pos
-shape_of-pos c = c.loop-k.invariant.3
-
-pub shape_of-ends : goal.shape_of-ends
-shape_of-ends c = c.loop-k.invariant.4
-
-pub shape_of-order : goal.shape_of-order
-shape_of-order c = c.loop-k.invariant.5
-
-pub shape_of-spare : goal.shape_of-spare
-shape_of-spare c = c.loop-k.invariant.6
 
 pub returns : goal.returns
 returns c =

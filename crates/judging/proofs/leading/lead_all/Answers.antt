@@ -1,16 +1,15 @@
--- `judging::leading::lead_all` meets its contract. The invariant: the lists before k are gone by, and the rooms are as long as they were. Assumes nothing.
+-- `judging::leading::lead_all` meets its contract. The invariant: the lists before k are gone by, and the room is for as many records. Assumes nothing.
 use Rattle.std.proofs.Common.{rules}
 use native.Mathlib.Omega.{arith}
 use mathlib.Core.Path.{refl}
 use Rattle.joined.proofs.Laws.Lists.{gone_within}
-use Rattle.files.specs.Inner.{Resolvable}
-use Rattle.files.proofs.Laws.Rooms.{room_kept}
+use Rattle.files.specs.Inner.{Fits}
 use Rattle.judging.proofs.Laws.Lists.{holds_here, led_start, led_more}
 use Rattle.judging.proofs.leading.lead_all.Goals as goal
 
 pub loop-k-init : goal.loop-k-init
 loop-k-init c =
-    (c.requires.lengths_value.0, led_start _ _ c.requires.lengths_value.0 _ _ _ _ _, refl, refl, refl, refl, refl, refl)
+    (c.requires.lengths_value.0, led_start _ _ c.requires.lengths_value.0 _ _ _ _ _, refl)
 
 pub overflow_add-stop : goal.overflow_add-stop
 overflow_add-stop c = let l = c.loop-k.invariant in omega (arith, gone_within _ _ _ _ l.1.gone c.loop-k-test.true)
@@ -23,7 +22,8 @@ lead_list-led-requires c =
     let i = c.loop-k.invariant in
     let h = c.loop-k-test.true in
     let a = c.args in
-    record { resolvable = ((holds_here _ _ c.loop-k.invariant.0 _ _ c.loop-k.invariant.1.gone h _ refl (Resolvable a.marks.now a.tops.now a.pos.now a.ends.now a.order.now a.spare.now) c.requires.lengths_value.1).0, room_kept (holds_here _ _ c.loop-k.invariant.0 _ _ c.loop-k.invariant.1.gone h _ refl (Resolvable a.marks.now a.tops.now a.pos.now a.ends.now a.order.now a.spare.now) c.requires.lengths_value.1).1 i.2 i.3 i.4 i.5 i.6 i.7); n_bound = (c.requires.lengths_len_bound.1, c.requires.lengths_len_bound.2); number_in_bounds = (i.1.led.within, i.1.led.inside, i.1.led.order) }
+    let f = holds_here _ _ c.loop-k.invariant.0 _ _ c.loop-k.invariant.1.gone h _ refl (Fits a.room.now.records) c.requires.lengths_value.1 in
+    record { resolvable = (f.0, omega (arith, f.1, i.2)); n_bound = (c.requires.lengths_len_bound.1, c.requires.lengths_len_bound.2); number_in_bounds = (i.1.led.within, i.1.led.inside, i.1.led.order) }
 
 pub overflow_add-k : goal.overflow_add-k
 overflow_add-k c = omega (arith, c.loop-k-test.true, c.requires.lengths_len_bound.0)
@@ -31,25 +31,7 @@ overflow_add-k c = omega (arith, c.loop-k-test.true, c.requires.lengths_len_boun
 pub loop-k-preserved : goal.loop-k-preserved
 loop-k-preserved c =
     let i = c.loop-k.invariant in
-    (i.0, led_more _ _ _ _ _ _ _ _ _ _ _ _ i.1 c.loop-k-test.true _ refl _ _ c.lead_list-led.ensures, search rules, search rules, search rules, search rules, search rules, search rules)
-
-pub shape_of-marks : goal.shape_of-marks
-shape_of-marks c = c.loop-k.invariant.2
-
-pub shape_of-tops : goal.shape_of-tops
-shape_of-tops c = c.loop-k.invariant.3
-
-pub shape_of-pos : goal.shape_of-pos
-shape_of-pos c = c.loop-k.invariant.4
-
-pub shape_of-ends : goal.shape_of-ends
-shape_of-ends c = c.loop-k.invariant.5
-
-pub shape_of-order : goal.shape_of-order
-shape_of-order c = c.loop-k.invariant.6
-
-pub shape_of-spare : goal.shape_of-spare
-shape_of-spare c = c.loop-k.invariant.7
+    (i.0, led_more _ _ _ _ _ _ _ _ _ _ _ _ i.1 c.loop-k-test.true _ refl _ _ c.lead_list-led.ensures.leads, search rules)
 
 pub returns : goal.returns
 returns c = c.loop-k.invariant.1.led

@@ -1,4 +1,5 @@
 -- `judging::rooms::work` meets its contract. Assumes nothing.
+use Rattle.std.proofs.Common.{rules}
 use native.Mathlib.Omega.{arith}
 use mathlib.Core.Path.{sym, ◌∙◌}
 use mathlib.Core.Bool.{true≢false}
@@ -37,7 +38,7 @@ pub first_not_once-requires : goal.first_not_once-requires
 unfolding chunk
 first_not_once-requires c =
     let a = c.args in
-    record { all = all_inside _ _ _ _ (found_looked _ _ _ _ (parts a.lengths.now a.lists.now) _ (rw (← parts-length a.lengths.now a.lists.now) at c.requires.lengths_len_bound.1) _ (record { limit = _; within = c.first_misformed-limit.ensures.upper_bound.0; form = c.first_misformed-limit.ensures.upper_bound.1; next = c.first_misformed-limit.ensures.result_value; sifted = c.sift_all-number.ensures })) c.if-number-plan.false; n_bound = omega (arith, c.requires.lengths_len_bound.0, c.requires.lengths_len_bound.1); keys_nonzero = (omega (arith, c.requires.pos_nonzero.0, c.sift_all-number.auto.pos), omega (arith, c.requires.pos_nonzero.1, c.sift_all-number.auto.pos), omega (arith, c.requires.pos_nonzero.2, c.sift_all-number.auto.pos, c.sift_all-number.auto.order), omega (arith, c.requires.pos_nonzero.3, c.sift_all-number.auto.pos, c.sift_all-number.auto.spare)) }
+    record { all = all_inside _ _ _ _ (found_looked _ _ _ _ (parts a.lengths.now a.lists.now) _ (rw (← parts-length a.lengths.now a.lists.now) at c.requires.lengths_len_bound.1) _ (record { limit = _; within = c.first_misformed-limit.ensures.upper_bound.0; form = c.first_misformed-limit.ensures.upper_bound.1; next = c.first_misformed-limit.ensures.result_value; sifted = c.sift_all-number.ensures })) c.if-number-plan.false; n_bound = omega (arith, c.requires.lengths_len_bound.0, c.requires.lengths_len_bound.1); keys_nonzero = search rules }
 
 pub returns : goal.returns
 returns c =

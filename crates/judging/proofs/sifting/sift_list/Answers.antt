@@ -2,14 +2,13 @@
 use Rattle.judging.proofs.Laws.Sifting.{sift_nowhere}
 use Rattle.judging.proofs.sifting.sift_list.Goals as goal
 
-pub returns-then-part : goal.returns-then-part
-returns-then-part c =
+pub returns-then-part-clause-sifts : goal.returns-then-part-clause-sifts
+returns-then-part-clause-sifts c =
     let p = c.part-part.ensures in
     sift_nowhere _ _ _ _ _ _ _ _ _ _ p.0 p.1 c.if-part.true c.requires.limit_in_bounds.1
 
 pub resolve-segments-requires : goal.resolve-segments-requires
-resolve-segments-requires c =
-    record { all = c.requires.resolvable.0.pass; list_bound = c.requires.resolvable.0.few; list_in_bounds = (c.requires.resolvable.1.marks_fit, c.requires.resolvable.1.tops_fit); list_in_bounds_2 = (c.requires.resolvable.1.pos_fit, c.requires.resolvable.1.ends_fit, c.requires.resolvable.1.order_fit, c.requires.resolvable.1.spare_fit) }
+resolve-segments-requires c = record { all = c.requires.resolvable.0.pass; few = c.requires.resolvable.1 }
 
 pub sift_on-requires : goal.sift_on-requires
 sift_on-requires c =

@@ -2,16 +2,16 @@
 use native.Mathlib.Omega.{arith}
 use Rattle.slices.specs.Limits.{chunk}
 use Rattle.resolve.proofs.Laws.Resolved.{resolved_at, resolved_few}
+use Rattle.resolve.proofs.Laws.Ready.{ready_of}
 use Rattle.stepping.proofs.rooms.end_in.Goals as goal
 
 pub resolve-segments-requires : goal.resolve-segments-requires
-resolve-segments-requires c =
-    record { all = c.requires.resolvable.0.pass; list_bound = c.requires.resolvable.0.few; list_in_bounds = (c.requires.resolvable.1.marks_fit, c.requires.resolvable.1.tops_fit); list_in_bounds_2 = (c.requires.resolvable.1.pos_fit, c.requires.resolvable.1.ends_fit, c.requires.resolvable.1.order_fit, c.requires.resolvable.1.spare_fit) }
+resolve-segments-requires c = record { all = c.requires.resolvable.0.pass; few = c.requires.resolvable.1 }
 
 pub offset_bounds-r-k : goal.offset_bounds-r-k
 unfolding chunk
-offset_bounds-r-k c = omega (arith, c.find-k.ensures.inside, resolved_few _ _ _ _ _ c.resolve-segments.ensures.resolved)
+offset_bounds-r-k c = omega (arith, c.find-k.ensures.inside, resolved_few _ _ _ _ _ (ready_of c.resolved-r.result.ready).resolved)
 
 pub returns : goal.returns
 returns c =
-    record { on_top = resolved_at _ _ _ _ _ c.resolve-segments.ensures.resolved _ _ c.find-k.ensures; leads = c.run_to.ensures }
+    record { on_top = rw c.resolved-r.ensures at (resolved_at _ _ _ _ _ (ready_of c.resolved-r.result.ready).resolved _ _ c.find-k.ensures); leads = rw c.resolved-r.ensures at c.run_to.ensures }
