@@ -41,7 +41,7 @@ impl Refusal {
     pub fn number(self) -> u8
         ensures { result ≡ self.number }
     {
-        self.kind.number()
+        Kind::number(self.kind)
     }
 
     pub fn place(self) -> usize
