@@ -3,8 +3,11 @@ use Prim.Native.Nat.{ℕ, zero, suc, ◌+◌, ◌-◌, ◌<◌, ◌≤◌}
 use native.Mathlib.Omega.{arith}
 use native.Mathlib.Numerals.{add-one}
 use mathlib.Core.Path.{◌≡◌, refl}
+use mathlib.Core.Bool.{true, false}
+use mathlib.Core.Logic.{◌≢◌}
 use mathlib.Core.List.{List, [], ◌∷◌}
 use lib.Dec.{eqb}
+use borrow.Author.Tests.{eq-eqb, ne_eqb}
 use Rattle.std.specs.List.{list_any, range_with_len}
 use Rattle.codec.specs.Groups.{groups_from}
 use Rattle.slices.specs.Record.{record_at, records_from, count, records}
@@ -36,6 +39,18 @@ module _ (bs : List ℕ) where
       rw e at (left_more (i - 1) (omega arith))
 
   -- ---- an id
+
+  pub stands_here : (id i : ℕ) → i < count bs → (record_at bs i).id ≡ id → true ≡ stands id (records_left i)
+  unfolding stands
+  stands_here id i h e = rw (left_more i h, eq-eqb (record_at bs i).id id e)
+
+  pub stands_next : (id i : ℕ) → i < count bs → (record_at bs i).id ≢ id → stands id (records_left i) ≡ stands id (records_left (i + 1))
+  unfolding stands
+  stands_next id i h e = rw (left_more i h, ne_eqb (record_at bs i).id id e)
+
+  pub stands_none : (id i : ℕ) → count bs ≤ i → false ≡ stands id (records_left i)
+  unfolding stands
+  stands_none id i h = rw (left_none i h)
 
   -- as a test of the records' places
   pub stands_any : (id i n : ℕ) → list_any (λ j. eqb (record_at bs j).id id) (range_with_len i n) ≡ stands id (records_from bs i n)
