@@ -69,9 +69,8 @@ pub(crate) fn walk_lists(
 {
     let mut at = 0;
     let mut to = 0;
-    let mut k = 0;
-    while k < lengths.len() {
-        let stop = at + lengths[k] as usize;
+    for (k, len) in lengths.iter().enumerate() {
+        let stop = at + *len as usize;
         to = walk_list(
             &lists[at..stop],
             first,
@@ -86,7 +85,6 @@ pub(crate) fn walk_lists(
             room,
         );
         at = stop;
-        k += 1;
     }
     to
 }

@@ -134,9 +134,8 @@ pub(crate) fn lead_all(
         place: 0,
     };
     let mut at = 0;
-    let mut k = 0;
-    while k < lengths.len() {
-        let stop = at + lengths[k] as usize;
+    for (k, len) in lengths.iter().enumerate() {
+        let stop = at + *len as usize;
         led = lead_list(
             &lists[at..stop],
             k as u32,
@@ -150,7 +149,6 @@ pub(crate) fn lead_all(
             room,
         );
         at = stop;
-        k += 1;
     }
     led
 }

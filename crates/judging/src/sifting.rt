@@ -112,9 +112,8 @@ pub(crate) fn sift_all(
 {
     let mut left = limit;
     let mut at = 0;
-    let mut k = 0;
-    while k < lengths.len() {
-        let stop = at + lengths[k] as usize;
+    for (k, len) in lengths.iter().enumerate() {
+        let stop = at + *len as usize;
         left = sift_list(
             &lists[at..stop],
             k as u32,
@@ -128,7 +127,6 @@ pub(crate) fn sift_all(
             room,
         );
         at = stop;
-        k += 1;
     }
     left
 }

@@ -38,9 +38,6 @@ walk_list-to-requires c =
     let r = walked_holds _ _ _ _ _ _ _ _ _ _ _ _ _ i.0 h _ refl in
     record { resolvable = (r.0, omega (arith, r.1, i.1)); k_lt_max_lists = (omega (arith, h, c.requires.lengths_len_bound.0), omega (arith, h, c.requires.lengths_len_bound.1), walked_low _ _ _ _ _ _ c.requires.lengths_value.0 accepted (shifts_some _ _ c.requires.lengths_len_bound.2) _ _ _ _ _ _ _ i.0 c.requires.lengths_len_bound.0 (omega (arith, c.ranges.end)), c.requires.lengths_len_bound.2); list_in_bounds = walked_room _ _ _ _ _ _ _ _ _ _ _ _ _ i.0 h _ refl }
 
-pub overflow_add-k : goal.overflow_add-k
-overflow_add-k c = omega (arith, c.loop-k-test.true, c.requires.lengths_len_bound.0)
-
 pub loop-k-preserved : goal.loop-k-preserved
 loop-k-preserved c =
     let i = c.loop-k.invariant in

@@ -1,8 +1,6 @@
 -- `files::walk::walk_lists` meets its contract. The invariant: the lists before k are planned, and the room is for as many records.
 -- Assumes nothing.
-use Prim.Native.Nat.{◌-◌}
 use mathlib.Core.Path.{◌≡◌}
-use lib.ListN.{length}
 use Rattle.files.specs.Inner.{Fits}
 use Rattle.files.proofs.Laws.Walk.{Walked}
 use Rattle.files.proofs.walk.walk_lists.Given as goal
@@ -10,6 +8,3 @@ use Rattle.files.proofs.walk.walk_lists.Given as goal
 abbrev pub invariant-loop-k : goal.invariant-loop-k
 invariant-loop-k l = Walked l.first l.block l.from l.end (Fits l.initial.room.records) l.lengths l.lists l.write l.initial.out l.out l.at l.to l.k
     × (l.room.records ≡ l.initial.room.records)
-
-abbrev pub decreases-loop-k : goal.decreases-loop-k
-decreases-loop-k l = length l.lengths - l.k

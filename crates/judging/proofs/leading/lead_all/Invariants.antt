@@ -1,5 +1,4 @@
 -- `judging::leading::lead_all` meets its contract. The invariant: the lists before k are gone by, and the room is for as many records. Assumes nothing.
-use Prim.Native.Nat.{◌-◌}
 use mathlib.Core.Path.{◌≡◌}
 use lib.ListN.{length}
 use Rattle.joined.specs.Lists.{total}
@@ -9,6 +8,3 @@ use Rattle.judging.proofs.leading.lead_all.Given as goal
 abbrev pub invariant-loop-k : goal.invariant-loop-k
 invariant-loop-k l = (adds : total l.lengths ≡ length l.lists) × LedOver l.lengths l.lists adds l.first l.from l.n l.block l.plan l.at l.k l.led.number l.led.place
     × (l.room.records ≡ l.initial.room.records)
-
-abbrev pub decreases-loop-k : goal.decreases-loop-k
-decreases-loop-k l = length l.lengths - l.k
