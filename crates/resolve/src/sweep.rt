@@ -49,8 +49,7 @@ fn begin(
     ensures next { Next pos.now order.now n q result.begun result.next }
 {
     let mut sum = sum0;
-    let mut k = from;
-    while k < n {
+    for k in from..n {
         let v = tops::wide(order[k]);
         let at = pos[v];
         if (q as u64) < at {
@@ -61,11 +60,10 @@ fn begin(
             };
         }
         sum = set::put(words, sum, v);
-        k += 1;
     }
     Started {
         sum,
-        begun: k,
+        begun: n,
         next: CHUNK,
     }
 }

@@ -1,7 +1,7 @@
 -- `resolve::sweep::begin` meets its contract. The invariant: what it is to have done, up to k. Assumes nothing.
 use Prim.Native.Nat.{ℕ, ◌<◌}
 use native.Mathlib.Omega.{arith}
-use mathlib.Core.Path.{refl, sym, ap, ◌∙◌}
+use mathlib.Core.Path.{◌≡◌, refl, sym, ap, ◌∙◌}
 use lib.ListN.{get_or}
 use Rattle.slices.specs.Limits.{chunk}
 use Rattle.resolve.proofs.Laws.Sweep.{begun_start, begun_more}
@@ -47,4 +47,5 @@ shape_of-words c = c.loop-k.invariant.0.size ∙ sym c.requires.summed.size
 pub returns : goal.returns
 unfolding chunk
 returns c =
-    record { summed_2 = c.loop-k.invariant.0; begun = c.loop-k.invariant.1; next = record { behind = c.requires.n_in_bounds.4; is = λ h. absurd (omega (arith, h, c.loop-k-test.false)); none = λ h. refl } }
+    let e : c.loop-k.k ≡ c.args.n = omega (arith, c.loop-k-test.false, c.requires.n_in_bounds.3) in
+    record { summed_2 = c.loop-k.invariant.0; begun = rw e at c.loop-k.invariant.1; next = record { behind = c.requires.n_in_bounds.4; is = λ h. absurd (omega arith); none = λ h. refl } }
