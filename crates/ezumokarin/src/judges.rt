@@ -6,7 +6,7 @@ ghost use Rattle.ezumokarin.specs.Judges.{with_verdict, judged_plan, plain_judge
 use crate::Judged;
 use joined::ListRefusal;
 
-// The numbers of the verdicts.
+// The numbers of the verdicts: an answer to C is a struct of numbers.
 const ACCEPTED: u64 = 1;
 
 const WRONG_PIECE: u64 = 2;

@@ -21,7 +21,7 @@ use slices::{CHUNK, MAX_INDEX, check};
 // The bytes of a piece.
 pub const PIECE: usize = 34;
 
-// `RB`, the mark of a piece that lies in an object.
+// `RB`, the mark of a piece that lies in an object. Marks are numbers and no enum: a piece that was made elsewhere may have any (`unknown_mark` of `judging`).
 pub const OBJECT: u16 = 0x5242;
 
 // `RZ`, the mark of a piece that reads as zeros.

@@ -1,4 +1,5 @@
-// The record on top of a position, by its number counted from 1; 0 says that there is none.
+// The record on top of a position, by its number counted from 1; 0 says that there is none. No Option: a table of segments has two bytes for each, so that it fits the stack
+// that a call may use.
 ghost use Rattle.std.specs.Prelude.{◌≡◌, ℕ, suc, ◌+◌, ◌-◌, ◌*◌, ◌<◌, ◌≤◌, length};
 ghost use Rattle.codec.specs.All.{All};
 ghost use Rattle.slices.specs.Cover.{cover};

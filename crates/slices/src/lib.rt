@@ -30,7 +30,7 @@ pub struct Record {
     pub len: u32,
 }
 
-// Where a byte of the chunk comes from.
+// Where a byte of the chunk comes from. The requirements name the three cases, and that they are an enum.
 #[derive(Clone, Copy)]
 pub enum Source {
     Nothing,

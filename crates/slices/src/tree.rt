@@ -23,7 +23,7 @@ const MANY_ROOTS: u64 = 4096;
 
 const MANY_TABLE: usize = 20480;
 
-// Where a search ends: at the record with the id, or at an entry that is 0.
+// Where a search ends: at the record with the id, or at an entry that is 0. An enum of its own, as std's `Entry` is: neither case is a failure.
 #[derive(Clone, Copy)]
 pub enum Spot {
     Node(usize),
