@@ -13,13 +13,7 @@ pub const LARGEST: u64 = 16777216;
 pub fn block_allowed(block: u64) -> bool
     ensures { result ≡ block_allowed block }
 {
-    if block < SMALLEST {
-        return false;
-    }
-    if LARGEST < block {
-        return false;
-    }
-    LARGEST % block == 0
+    SMALLEST <= block && block <= LARGEST && LARGEST % block == 0
 }
 
 // Of which power of two an allowed block size is.

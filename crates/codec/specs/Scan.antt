@@ -1,9 +1,8 @@
 -- Reading a decimal number in a text: what a number that was read is, and the scan that finds it. proofs/Laws/Scan.antt shows that the scan
 -- finds nothing else (`decimal_reads`), and finds each such number (`decimal_writes`). Assumes nothing.
-use Rattle.std.specs.Prelude.{ℕ, suc, ◌+◌, ◌*◌, ◌≤◌, min, ◌≡◌, cond, ◌&&◌, List, [], ◌∷◌, ◌++◌, ltb, leb, drop}
+use Rattle.std.specs.Prelude.{ℕ, suc, ◌+◌, ◌*◌, ◌≤◌, min, ◌≡◌, cond, ◌&&◌, List, [], ◌∷◌, ◌++◌, ltb, leb, drop, Result, Ok, Err}
 use Rattle.codec.specs.Decimal.{decimal, digit_of}
-use Rattle.codec.specs.declared.scan.Step.{Step}
-use Rattle.codec.specs.declared.scan.Step.TheVariants.{Next, Stop}
+use Rattle.codec.specs.declared.scan.Parsed.{Parsed}
 
 -- what the first byte of a text stands for as a digit, and 10 where there is none
 unfoldable pub digit_at : List ℕ → ℕ
@@ -20,23 +19,27 @@ pub record DecimalRead (least most i : ℕ) (text : List ℕ) (j n : ℕ) : Type
 
 -- ---- the scan
 
--- The list is what the text has from place i on. `Next` has the place after the number, and the number. `Stop` has the place at which the
+-- what a reading finds: the number v, and the place i after it
+abbrev pub parsed : ℕ → ℕ → Result Parsed ℕ
+parsed i v = Ok (record { at = i; value = v })
+
+-- The list is what the text has from place i on. `parsed` has the place after the number, and the number. `Err` has the place at which the
 -- scan gives up: that of a digit that would bring the number above `most`, of a digit behind a zero in front, or of a zero in front where
 -- `least` is above 0; else that of the first byte that is no digit, or the text's end, where no digit stands before it or the number is
 -- below `least`. It is not the end of the longest beginning that an allowed number has: from 1,234,000 to 1,234,999, the text `1235` stops
 -- at its end, although no allowed number begins so.
 
 -- a number of which v is read already: a zero takes no further digit
-unfoldable pub more_digits : ℕ → ℕ → ℕ → ℕ → List ℕ → Step
-more_digits least most v i [] = cond (leb least v) (Next i v) (Stop i)
+unfoldable pub more_digits : ℕ → ℕ → ℕ → ℕ → List ℕ → Result Parsed ℕ
+more_digits least most v i [] = cond (leb least v) (parsed i v) (Err i)
 more_digits least most v i (b ∷ rest) =
     let further = more_digits least most (v * 10 + digit_of b) (suc i) rest in
-    cond (ltb (digit_of b) 10) (cond (leb 1 v && leb (v * 10 + digit_of b) most) further (Stop i)) (cond (leb least v) (Next i v) (Stop i))
+    cond (ltb (digit_of b) 10) (cond (leb 1 v && leb (v * 10 + digit_of b) most) further (Err i)) (cond (leb least v) (parsed i v) (Err i))
 
 -- a decimal number from least to most, without leading zeros
-unfoldable pub decimal_at : ℕ → ℕ → ℕ → List ℕ → Step
+unfoldable pub decimal_at : ℕ → ℕ → ℕ → List ℕ → Result Parsed ℕ
 unfolding more_digits
-decimal_at least most i [] = Stop i
+decimal_at least most i [] = Err i
 decimal_at least most i (b ∷ rest) =
     let further = more_digits least most (digit_of b) (suc i) rest in
-    cond (ltb (digit_of b) 10 && (leb (min 1 least) (digit_of b) && leb (digit_of b) most)) further (Stop i)
+    cond (ltb (digit_of b) 10 && (leb (min 1 least) (digit_of b) && leb (digit_of b) most)) further (Err i)

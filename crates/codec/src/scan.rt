@@ -2,12 +2,11 @@
 ghost use Rattle.std.specs.Prelude.{◌≡◌, ◌&&◌, ◌+◌, ◌*◌, min, drop, leb, ltb};
 ghost use Rattle.codec.specs.Scan.{digit_at, decimal_at};
 
-// What reading one part of a text finds: the place after it, with the number it holds (0 for a word), or
-// the place at which the reading gives up.
+// A number that was read in a text, and the place after it.
 #[derive(Clone, Copy)]
-pub enum Step {
-    Next { at: usize, value: u64 },
-    Stop(usize),
+pub struct Parsed {
+    pub at: usize,
+    pub value: u64,
 }
 
 // What the digit at a place stands for, and 10 where there is none.
@@ -18,13 +17,10 @@ fn digit_at(text: &[u8], i: usize) -> u64
         return 10;
     }
     let b = text[i];
-    if b < 48 {
+    if !b.is_ascii_digit() {
         return 10;
     }
-    if 57 < b {
-        return 10;
-    }
-    u64::from(b) - 48
+    u64::from(b - b'0')
 }
 
 // Whether d may be a number's first digit.
@@ -38,36 +34,30 @@ fn opens(d: u64, least: u64, most: u64) -> bool
 fn extends(value: u64, d: u64, most: u64) -> bool
     ensures { result ≡ (leb 1 value && leb (value * 10 + d) most) }
 {
-    if value < 1 {
-        return false;
-    }
-    if most / 10 < value {
-        return false;
-    }
-    d <= most - value * 10
+    1 <= value && value <= most / 10 && d <= most - value * 10
 }
 
-// The decimal number at a place: one from least to most, without leading zeros.
-pub fn read_decimal(text: &[u8], at: usize, least: u64, most: u64) -> Step
+// The decimal number at a place: one from least to most, without leading zeros. `Err` has the place at which the reading gives up.
+pub fn read_decimal(text: &[u8], at: usize, least: u64, most: u64) -> Result<Parsed, usize>
     ensures { result ≡ decimal_at least most at (drop at text.now) }
 {
     let mut value = digit_at(text, at);
     if !opens(value, least, most) {
-        return Step::Stop(at);
+        return Err(at);
     }
     // An index loop: a number ends at a byte that is no digit as it does at the text's end, and a `for` has to end it at two places.
     let mut i = at + 1;
     let mut d = digit_at(text, i);
     while d < 10 {
         if !extends(value, d, most) {
-            return Step::Stop(i);
+            return Err(i);
         }
         value = value * 10 + d;
         i += 1;
         d = digit_at(text, i);
     }
     if value < least {
-        return Step::Stop(i);
+        return Err(i);
     }
-    Step::Next { at: i, value }
+    Ok(Parsed { at: i, value })
 }

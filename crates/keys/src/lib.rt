@@ -3,16 +3,18 @@
 
 mod limits;
 
-ghost use Rattle.std.specs.Prelude.{◌≡◌, ◌≤◌, length};
+ghost use Rattle.std.specs.Prelude.{◌≡◌, [], ◌≤◌, length};
 ghost use Rattle.codec.specs.Decimal.{decimal};
 ghost use Rattle.codec.specs.Splice.{splice};
 ghost use Rattle.codec.specs.Inner.{Puts};
 ghost use Rattle.outcomes.specs.Answers.{Answers};
+ghost use Rattle.texts.specs.Inner.{read_by};
+ghost use Rattle.texts.specs.Parts.{scan};
 ghost use Rattle.keys.specs.Limits.{tkv_size};
-ghost use Rattle.keys.specs.Inner.{redis_length};
-ghost use Rattle.keys.specs.Keys.{redis_key, read_redis, write_redis, tkv_key, tkv_shape, read_tkv, write_tkv, chunk_answer};
+ghost use Rattle.keys.specs.Inner.{key_of, redis_length};
+ghost use Rattle.keys.specs.Keys.{redis_key, redis_form, read_redis, write_redis, tkv_key, tkv_shape, read_tkv, write_tkv, chunk_answer};
 
-use codec::scan::Step;
+use codec::scan::read_decimal;
 use codec::{decimal, fixed, little, pairs, width};
 use outcomes::{Kind, Refusal};
 use slices::MAX_INDEX;
@@ -51,22 +53,26 @@ pub fn write_redis_key(inode: u64, index: u64, out: &mut [u8]) -> Result<usize, 
     Ok(put_redis(out, inode, index, i, j))
 }
 
+// The chunk that a Redis key names, or the place at which the reading gives up.
+fn read_redis_parts(key: &[u8]) -> Result<ChunkKey, usize>
+    ensures { result ≡ read_by key_of (scan redis_form key.now [] 0) }
+{
+    let at = scan::word(key, 0, b"c")?;
+    let inode = read_decimal(key, at, 0, MAX_NUMBER)?;
+    let at = scan::word(key, inode.at, b"_")?;
+    let index = read_decimal(key, at, 0, MAX_INDEX)?;
+    scan::end(key, index.at)?;
+    Ok(ChunkKey {
+        inode: inode.value,
+        index: index.value,
+    })
+}
+
 // The chunk that a Redis key names.
 pub fn read_redis_key(key: &[u8]) -> Result<ChunkKey, Refusal>
     ensures { result ≡ chunk_answer (read_redis key.now) }
 {
-    let start = scan::start();
-    let letter = scan::word_after(key, start, b"c");
-    let inode = scan::number_after(key, letter, 0, MAX_NUMBER);
-    let bar = scan::word_after(key, inode, b"_");
-    let index = scan::number_after(key, bar, 0, MAX_INDEX);
-    match scan::end_after(key, index) {
-        Step::Next { at: _, value: _ } => Ok(ChunkKey {
-            inode: scan::value_of(inode),
-            index: scan::value_of(index),
-        }),
-        Step::Stop(_) => Err(Refusal::from(Kind::NotOfForm)),
-    }
+    read_redis_parts(key).map_err(|_| Refusal::from(Kind::NotOfForm))
 }
 
 // Puts a TKV key into a line.
@@ -96,13 +102,7 @@ pub fn write_tkv_key(inode: u64, index: u64, out: &mut [u8]) -> Result<usize, Re
 fn tkv_shape(key: &[u8]) -> bool
     ensures { result ≡ tkv_shape key.now }
 {
-    if key.len() != limits::TKV {
-        return false;
-    }
-    if key[0] != b'A' {
-        return false;
-    }
-    key[9] == b'C'
+    key.len() == limits::TKV && key[0] == b'A' && key[9] == b'C'
 }
 
 // The chunk that a TKV key names.

@@ -95,7 +95,7 @@ full_form = word slash ∷ name_form
 
 -- what follows the volume name of a text, read
 unfoldable pub full_scan : List ℕ → Scan
-full_scan text = onward (volume_at text) (λ i v. scan full_form text [] i)
+full_scan text = onward (volume_at text) (scan full_form text [])
 
 -- an object of the given volume
 unfoldable pub in_volume : List ℕ → Outcome Object → Outcome Full

@@ -1,7 +1,5 @@
 -- Volume names: "by our house rule 1 to 63 bytes of a-z, 0-9 and hyphen". Assumes nothing.
-use Rattle.std.specs.Prelude.{ℕ, suc, min, Bool, true, cond, ◌&&◌, ◌||◌, List, [], ◌∷◌, leb, eqb, length}
-use Rattle.codec.specs.declared.scan.Step.{Step}
-use Rattle.codec.specs.declared.scan.Step.TheVariants.{Next, Stop}
+use Rattle.std.specs.Prelude.{ℕ, suc, min, Bool, true, cond, ◌&&◌, ◌||◌, List, [], ◌∷◌, leb, eqb, length, Result, Ok, Err}
 use Rattle.names.specs.Limits.{max_volume}
 
 -- a-z, 0-9 and hyphen
@@ -22,6 +20,6 @@ unfoldable pub volume_run : List ℕ → ℕ
 volume_run [] = 0
 volume_run (b ∷ rest) = cond (volume_byte b) (suc (volume_run rest)) 0
 
--- the step over the volume name that a text begins with: `Stop` at 0 where there is none, and behind the 63rd byte of one that is too long
-abbrev pub volume_at : List ℕ → Step
-volume_at text = cond (leb 1 (volume_run text) && leb (volume_run text) max_volume) (Next (volume_run text) 0) (Stop (min (volume_run text) max_volume))
+-- the step over the volume name that a text begins with: `Err` at 0 where there is none, and behind the 63rd byte of one that is too long
+abbrev pub volume_at : List ℕ → Result ℕ ℕ
+volume_at text = cond (leb 1 (volume_run text) && leb (volume_run text) max_volume) (Ok (volume_run text)) (Err (min (volume_run text) max_volume))

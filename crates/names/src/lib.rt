@@ -9,8 +9,9 @@ mod volume;
 ghost use Rattle.std.specs.Prelude.{◌≡◌, ◌≤◌, length};
 ghost use Rattle.codec.specs.Inner.{Puts};
 ghost use Rattle.outcomes.specs.Answers.{Answers};
-ghost use Rattle.names.specs.Inner.{Widths};
-ghost use Rattle.names.specs.Names.{read_object, object_answer, write_object, read_full, full_answer, volume_part, write_full, full_name};
+ghost use Rattle.texts.specs.Inner.{read_by};
+ghost use Rattle.names.specs.Inner.{Widths, name_of};
+ghost use Rattle.names.specs.Names.{read_object, object_answer, write_object, full_scan, read_full, full_answer, volume_part, write_full, full_name};
 
 use codec::{pairs, width};
 use outcomes::{Kind, Refusal};
@@ -46,7 +47,7 @@ pub fn write_object_name(id: u64, block: u64, size: u64, out: &mut [u8]) -> Resu
 pub fn read_object_name(name: &[u8]) -> Result<ObjectName, Refusal>
     ensures { result ≡ object_answer (read_object name.now) }
 {
-    block::read(name, scan::start())
+    block::read(name, 0).map_err(|_| Refusal::from(Kind::NotOfForm))
 }
 
 // Puts a full name to the front of a buffer. Its id, block and size have i, b and s digits.
@@ -95,13 +96,20 @@ pub fn write_full_name(
     Ok(put_full(out, volume, id, block, size, i, b, s))
 }
 
+// The object that a full name names, or the place at which the reading gives up.
+fn read_full_parts(name: &[u8]) -> Result<ObjectName, usize>
+    ensures { result ≡ read_by name_of (full_scan name.now) }
+{
+    let slash = volume::read(name)?;
+    let at = scan::word(name, slash, b"/")?;
+    block::read(name, at)
+}
+
 // The object that a full name names.
 pub fn read_full_name(name: &[u8]) -> Result<ObjectName, Refusal>
     ensures { result ≡ full_answer (read_full name.now) }
 {
-    let front = volume::read(name);
-    let slash = scan::word_after(name, front, b"/");
-    block::read(name, slash)
+    read_full_parts(name).map_err(|_| Refusal::from(Kind::NotOfForm))
 }
 
 // The volume name of a full name that was read as `named`, as a part of it; an empty part where the name is refused.

@@ -3,18 +3,11 @@ ghost use Rattle.std.specs.Prelude.{◌≡◌, ◌≤◌, length};
 ghost use Rattle.names.specs.Volume.{volume_byte, volume_run, volume_at, volume_allowed};
 
 use crate::limits;
-use codec::scan::Step;
 
 fn is_volume_byte(b: u8) -> bool
     ensures { result ≡ volume_byte b }
 {
-    if b'a' <= b {
-        return b <= b'z';
-    }
-    if b'0' <= b {
-        return b <= b'9';
-    }
-    b == b'-'
+    matches!(b, b'a'..=b'z' | b'0'..=b'9' | b'-')
 }
 
 // How many bytes of a volume name the text begins with.
@@ -26,30 +19,24 @@ pub(crate) fn run(text: &[u8]) -> usize
         .count()
 }
 
-// The volume name at the front of a text.
-pub(crate) fn read(text: &[u8]) -> Step
+// The place behind the volume name at the front of a text, or the place at which the reading gives up.
+pub(crate) fn read(text: &[u8]) -> Result<usize, usize>
     ensures { result ≡ volume_at text.now }
 {
     let n = run(text);
     if n < 1 {
-        return Step::Stop(0);
+        return Err(0);
     }
     if limits::MAX_VOLUME < n {
-        return Step::Stop(limits::MAX_VOLUME);
+        return Err(limits::MAX_VOLUME);
     }
-    Step::Next { at: n, value: 0 }
+    Ok(n)
 }
 
 // Whether a text is a volume name.
 pub(crate) fn allowed(volume: &[u8]) -> bool
     ensures { result ≡ volume_allowed volume.now }
 {
-    if volume.len() < 1 {
-        return false;
-    }
-    if limits::MAX_VOLUME < volume.len() {
-        return false;
-    }
-    let n = run(volume);
-    n == volume.len()
+    let n = volume.len();
+    1 <= n && n <= limits::MAX_VOLUME && run(volume) == n
 }

@@ -1,11 +1,9 @@
 -- A form of text: a list of parts, each a fixed word or a decimal number within bounds. What the text of given numbers is, which
 -- numbers the form allows, and what reading a text finds. proofs/Laws/Parts.antt shows that reading is the inverse of writing.
 -- Assumes nothing.
-use Rattle.std.specs.Prelude.{ℕ, suc, Bool, true, false, cond, ◌&&◌, List, [], ◌∷◌, ◌++◌, leb, eqb, drop, get_or}
+use Rattle.std.specs.Prelude.{ℕ, suc, Bool, true, false, cond, ◌&&◌, List, [], ◌∷◌, ◌++◌, leb, eqb, drop, get_or, Result, Ok, Err}
 use Rattle.codec.specs.Decimal.{decimal}
 use Rattle.codec.specs.Scan.{decimal_at}
-use Rattle.codec.specs.declared.scan.Step.{Step}
-use Rattle.codec.specs.declared.scan.Step.TheVariants.{Next, Stop}
 
 -- `number least most` is a decimal number from least to most; both may depend on the numbers before it in the text, the latest first
 pub data Part : Type 0 where
@@ -39,18 +37,18 @@ allows (number least most ∷ form) before (n ∷ ns) = (leb (least before) n &&
 
 -- ---- reading
 
--- Each step's list is what the text has from place i on; `Stop` has the place at which the step gives up.
+-- Each step's list is what the text has from place i on; `Ok` has the place after the part, `Err` the place at which the step gives up.
 
--- a word at place i: `Stop` at the first byte that differs, or at the text's end
-unfoldable pub word_at : List ℕ → ℕ → List ℕ → Step
-word_at [] i text = Next i 0
-word_at (a ∷ w) i [] = Stop i
-word_at (a ∷ w) i (b ∷ rest) = cond (eqb b a) (word_at w (suc i) rest) (Stop i)
+-- a word at place i: `Err` at the first byte that differs, or at the text's end
+unfoldable pub word_at : List ℕ → ℕ → List ℕ → Result ℕ ℕ
+word_at [] i text = Ok i
+word_at (a ∷ w) i [] = Err i
+word_at (a ∷ w) i (b ∷ rest) = cond (eqb b a) (word_at w (suc i) rest) (Err i)
 
--- the text's end at place i: `Stop` there where a byte is left
-unfoldable pub end_at : ℕ → List ℕ → Step
-end_at i [] = Next i 0
-end_at i (b ∷ rest) = Stop i
+-- the text's end at place i: `Err` there where a byte is left
+unfoldable pub end_at : ℕ → List ℕ → Result ℕ ℕ
+end_at i [] = Ok i
+end_at i (b ∷ rest) = Err i
 
 -- the numbers of a whole text, or the place at which its first step that gives up does so
 pub data Scan : Type 0 where
@@ -58,9 +56,9 @@ pub data Scan : Type 0 where
   stop : ℕ → Scan
 
 -- what a step leads to, if it was taken
-abbrev pub onward : Step → (ℕ → ℕ → Scan) → Scan
-onward (Next i v) f = f i v
-onward (Stop i) f = stop i
+abbrev pub onward : {A : Type 0} → Result A ℕ → (A → Scan) → Scan
+onward (Ok a) f = f a
+onward (Err i) f = stop i
 
 -- a scan's numbers with one more in front
 abbrev pub with : ℕ → Scan → Scan
@@ -70,7 +68,7 @@ with v (stop i) = stop i
 -- the text from place i on, read by the form
 unfoldable pub scan : List Part → List ℕ → List ℕ → ℕ → Scan
 unfolding word_at end_at
-scan [] text before i = onward (end_at i (drop i text)) (λ j v. found [])
-scan (word w ∷ form) text before i = onward (word_at w i (drop i text)) (λ j v. scan form text before j)
+scan [] text before i = onward (end_at i (drop i text)) (λ j. found [])
+scan (word w ∷ form) text before i = onward (word_at w i (drop i text)) (λ j. scan form text before j)
 scan (number least most ∷ form) text before i =
-    onward (decimal_at (least before) (most before) i (drop i text)) (λ j v. with v (scan form text (v ∷ before) j))
+    onward (decimal_at (least before) (most before) i (drop i text)) (λ p. with p.value (scan form text (p.value ∷ before) p.at))

@@ -8,7 +8,7 @@ use mathlib.Core.Path.{◌≡◌, refl, ap, ◌∙◌}
 use mathlib.Core.Logic.{◌↔◌}
 use mathlib.Core.Bool.{Bool, true, false, ◌&&◌, false≢true}
 use lib.Dec.{leb, eqb}
-use borrow.Author.Tests.{leb-true, le-leb, lt-leb}
+use borrow.Author.Tests.{leb-true, le-leb}
 use Rattle.blocks.specs.Blocks.{smallest, largest, power_below, block_allowed}
 use Rattle.blocks.proofs.Laws.Powers.{power_in, power_out, power_test}
 
@@ -50,14 +50,6 @@ module _ (B : ℕ) where
       (a.low, a.high)
 
   -- ---- the code's test
-
-  pub block_low : B < smallest → false ≡ block_allowed B
-  unfolding block_allowed
-  block_low h = rw (lt-leb smallest B h)
-
-  pub block_high : smallest ≤ B → largest < B → false ≡ block_allowed B
-  unfolding block_allowed
-  block_high h l = rw (le-leb smallest B h, lt-leb B largest l)
 
   pub block_rest : smallest ≤ B → B ≤ largest → eqb (largest % B) 0 ≡ block_allowed B
   unfolding block_allowed

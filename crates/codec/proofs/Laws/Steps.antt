@@ -1,15 +1,15 @@
 -- What one step of the loop that reads a decimal number does. Assumes nothing.
-use mathlib.Core.Path.{◌≡◌, refl, sym, ◌∙◌}
+use mathlib.Core.Path.{◌≡◌, refl}
 use mathlib.Core.Bool.{Bool, true, false, ◌&&◌, and-eq-true_iff, false≢true}
 use mathlib.Core.List.{List, [], ◌∷◌}
-use Prim.Native.Nat.{ℕ, zero, suc, ◌+◌, ◌-◌, ◌*◌, ◌≤◌, ◌<◌, min}
+use Prim.Native.Nat.{ℕ, zero, suc, ◌+◌, ◌*◌, ◌≤◌, ◌<◌, min}
 use native.Mathlib.Omega.{arith}
-use borrow.Author.Tests.{ltb-true, lt-ltb, leb-true, leb-false, le-leb, lt-leb}
+use borrow.Author.Tests.{ltb-true, lt-ltb, leb-true}
 use lib.Dec.{ltb, leb}
 use lib.ListN.{length, drop}
 use Rattle.codec.specs.Decimal.{digit_of}
 use Rattle.codec.specs.Scan.{digit_at, more_digits, decimal_at}
-use Rattle.codec.specs.declared.scan.Step.TheVariants.{Stop}
+use Rattle.std.specs.Prelude.{Err}
 use Rattle.codec.proofs.Laws.Scan.{drop_tail}
 
 module _ (least most i : ℕ) (text : List ℕ) where
@@ -17,11 +17,11 @@ module _ (least most i : ℕ) (text : List ℕ) where
   abbrev opens : ℕ → Bool
   opens d = ltb d 10 && (leb (min 1 least) d && leb d most)
 
-  pub decimal_none : opens (digit_at (drop i text)) ≡ false → decimal_at least most i (drop i text) ≡ Stop i
+  pub decimal_none : opens (digit_at (drop i text)) ≡ false → decimal_at least most i (drop i text) ≡ Err i
   unfolding decimal_at digit_at
   decimal_none e = go (drop i text) e
     where
-      go : (t : List ℕ) → opens (digit_at t) ≡ false → decimal_at least most i t ≡ Stop i
+      go : (t : List ℕ) → opens (digit_at t) ≡ false → decimal_at least most i t ≡ Err i
       go [] e = refl
       go (b ∷ t) e = rw e
 
@@ -38,11 +38,11 @@ module _ (least most v i : ℕ) (text : List ℕ) where
   abbrev extends : ℕ → Bool
   extends d = leb 1 v && leb (v * 10 + d) most
 
-  pub more_none : digit_at (drop i text) < 10 → extends (digit_at (drop i text)) ≡ false → more_digits least most v i (drop i text) ≡ Stop i
+  pub more_none : digit_at (drop i text) < 10 → extends (digit_at (drop i text)) ≡ false → more_digits least most v i (drop i text) ≡ Err i
   unfolding more_digits digit_at
   more_none h e = go (drop i text) h e
     where
-      go : (t : List ℕ) → digit_at t < 10 → extends (digit_at t) ≡ false → more_digits least most v i t ≡ Stop i
+      go : (t : List ℕ) → digit_at t < 10 → extends (digit_at t) ≡ false → more_digits least most v i t ≡ Err i
       go [] h e = absurd (omega arith)
       go (b ∷ t) h e = simp (lt-ltb (digit_of b) 10 h, e)
 
@@ -62,14 +62,6 @@ digit_inside zero [] h = absurd (omega arith)
 digit_inside zero (b ∷ text) h = omega arith
 digit_inside (suc i) [] h = absurd (omega arith)
 digit_inside (suc i) (b ∷ text) h = omega (arith, digit_inside i text h)
-
--- a test on a difference as one on a sum
-pub leb_sub : (d m x : ℕ) → x ≤ m → leb d (m - x) ≡ leb (x + d) m
-leb_sub d m x h = go (leb d (m - x)) refl
-  where
-    go : (t : Bool) → leb d (m - x) ≡ t → leb d (m - x) ≡ leb (x + d) m
-    go true e = e ∙ sym (le-leb (x + d) m (omega (arith, leb-true d (m - x) e)))
-    go false e = e ∙ sym (lt-leb (x + d) m (omega (arith, leb-false d (m - x) e)))
 
 -- what the two tests show
 pub opened : (least most d : ℕ) → ltb d 10 && (leb (min 1 least) d && leb d most) ≡ true → (d < 10) × (d ≤ most)

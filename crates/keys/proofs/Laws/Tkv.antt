@@ -55,11 +55,6 @@ shaped key s =
     let b = (and-eq-true_iff (eqb (get_or key 0 0) 65) (eqb (get_or key 9 0) 67)).0 a.1 in
     record { size = eqb-true _ _ a.0; first = eqb-true _ _ b.0; second = eqb-true _ _ b.1 }
 
--- with the length and the first letter right, the second letter decides
-pub shape_last : (key : List ℕ) → length key ≡ tkv_size → get_or key 0 0 ≡ 65 → eqb (get_or key 9 0) 67 ≡ tkv_shape key
-unfolding tkv_shape
-shape_last key n a = rw (eq-eqb (length key) tkv_size n, eq-eqb (get_or key 0 0) 65 a)
-
 pub length-tkv_key : (i j : ℕ) → length (tkv_key i j) ≡ tkv_size
 unfolding tkv_key
 length-tkv_key i j = simp (length-append, length-little_endian 8 i, length-big_endian 4 j)

@@ -10,24 +10,23 @@ use lib.Dec.{leb}
 use lib.ListN.{length, take, drop, take-append-drop}
 use lib.Seq.{drop-append_seam, take-append_seam}
 use Rattle.codec.specs.Decimal.{decimal, digit_of}
-use Rattle.codec.specs.declared.scan.Step.{Step}
-use Rattle.codec.specs.declared.scan.Step.TheVariants.{Next, Stop}
 use Rattle.codec.proofs.Laws.Decimal.{spelled}
 use Rattle.outcomes.specs.Numbers.{not_of_form}
 use Rattle.outcomes.specs.Outcome.{Outcome, refused, done, refusal}
 use Rattle.outcomes.specs.Outcome.{Refusal}
 use Rattle.names.specs.Limits.{max_volume}
 use Rattle.texts.specs.Words.{slash, underscore}
-use Rattle.texts.specs.Parts.{write, allows, Scan, onward, scan}
-use Rattle.texts.specs.Inner.{word_after}
+use Rattle.texts.specs.Parts.{write, allows, onward, scan}
 use Rattle.names.specs.Volume.{volume_allowed, volume_bytes, volume_run, volume_at}
 use Rattle.texts.specs.Calls.{reading, WriterRefuses}
 use Rattle.texts.specs.Inverse.{Inverse, Any}
-use Rattle.names.specs.Names.{Object, object, Full, full, object_allowed, shaped, object_name, name_form, object_of, read_object, object_answer, full_allowed, full_name, full_form, full_scan, in_volume, read_full, full_answer, volume_part, write_full}
+use Rattle.names.specs.Names.{Object, object, Full, full, object_allowed, shaped, object_name, object_of, read_object, object_answer, full_allowed, full_name, full_form, full_scan, in_volume, read_full, full_answer, volume_part, write_full}
 use Rattle.names.specs.declared.ObjectName.{ObjectName}
-use Rattle.std.specs.Prelude.{Ok, Err}
+use Rattle.std.specs.Prelude.{Result, Ok, Err, IsErrAnd}
+use Rattle.texts.specs.Inner.{read_by}
+use Rattle.texts.proofs.Laws.Steps.{Left, stopped}
+use Rattle.names.specs.Inner.{name_of}
 use Rattle.texts.proofs.Laws.Parts.{apart}
-use Rattle.texts.proofs.Laws.Steps.{on_word}
 use Rattle.texts.proofs.Laws.Shows.{Shows, shows_back, shows_forth}
 use Rattle.names.proofs.Laws.Volume.{right, run_writes, run_reads}
 use Rattle.names.proofs.Laws.Names.{shown, name_text, name_shows, object_name_lem, quotients_of}
@@ -63,9 +62,9 @@ full_back f a =
     let p = parts_allowed f a in
     let v = right f.volume p.0 in
     let n : volume_run (text f) ≡ length f.volume = run_writes f.volume (object_name f.object.id f.object.block f.object.length) v.bytes in
-    let s : volume_at (text f) ≡ Next (length f.volume) 0 = simp (n, le-leb 1 (length f.volume) v.some, le-leb (length f.volume) max_volume v.most) in
+    let s : volume_at (text f) ≡ Ok (length f.volume) = simp (n, le-leb 1 (length f.volume) v.some, le-leb (length f.volume) max_volume v.most) in
     let o : reading object_of (full_scan (text f)) ≡ done f.object =
-    ap (λ (s : Step). reading object_of (onward s (λ i v. scan full_form (text f) [] i))) s
+    ap (λ (s : Result ℕ ℕ). reading object_of (onward s (scan full_form (text f) []))) s
     ∙ shows_back full_shows (text f) (length f.volume) f.object p.1 (drop-append_seam f.volume _ ∙ full_text f.object) in
     let t : take (volume_run (text f)) (text f) ≡ f.volume = rw n (take-append_seam f.volume _) in
     rw (o, t)
@@ -78,7 +77,7 @@ unfolding read_full full_name full_scan in_volume full_allowed volume_allowed re
 full_forth t f r = of_outcome (reading object_of (full_scan t)) refl r
   where
     by_run : (o : Object) → f ≡ full (take (volume_run t) t) o → (s : Bool) → leb 1 (volume_run t) && leb (volume_run t) max_volume ≡ s
-        → reading object_of (onward (cond s (Next (volume_run t) 0) (Stop (min (volume_run t) max_volume))) (λ i v. scan full_form t [] i)) ≡ done o
+        → reading object_of (onward (cond s (Ok (volume_run t)) (Err (min (volume_run t) max_volume))) (scan full_form t [])) ≡ done o
         → (t ≡ text f) × (allowed f ≡ true)
     by_run o p true e q =
         let m = shows_forth full_shows t (volume_run t) o q in
@@ -177,12 +176,19 @@ unfolding answer_of in_volume
 answer_same volume (refused r) = refl
 answer_same volume (done o) = refl
 
--- the steps of the reader: the volume name, the slash, and the short name behind it
-pub full_steps : (t : List ℕ) (s0 s1 : Step) → s0 ≡ volume_at t → s1 ≡ word_after slash t s0
-    → object_answer (reading object_of (onward s1 (λ i v. scan name_form t [] i))) ≡ full_answer (read_full t)
-unfolding read_full full_scan
-full_steps t s0 s1 e0 e1 =
-    ap (λ (x : Scan). object_answer (reading object_of x)) (sym (on_word name_form t [] slash (volume_at t) s1 (rw e0 at e1))) ∙ answer_same (take (volume_run t) t) _
+-- what follows the volume name is read by the form, and nothing where there is no volume name
+pub full_begun : (t : List ℕ) {r : Result ℕ ℕ} {i : ℕ} → r ≡ volume_at t → r ≡ Ok i → Left t (full_scan t) full_form [] i
+unfolding full_scan
+full_begun t e o = record { is = ap (λ (s : Result ℕ ℕ). onward s (scan full_form t [])) (sym e ∙ o) }
+
+pub full_stops : (t : List ℕ) {r : Result ℕ ℕ} {i : ℕ} {x : Result ObjectName ℕ} → r ≡ volume_at t → r ≡ Err i → IsErrAnd x (λ y. y ≡ i) → x ≡ read_by name_of (full_scan t)
+unfolding full_scan
+full_stops t {i = i} {x} e o h = stopped name_of _ [] i x (ap (λ (s : Result ℕ ℕ). onward s (scan full_form t [])) (sym e ∙ o)) h
+
+-- what reading a full name answers
+pub full_same : (t : List ℕ) → object_answer (reading object_of (full_scan t)) ≡ full_answer (read_full t)
+unfolding read_full
+full_same t = answer_same (take (volume_run t) t) _
 
 -- the length of the part that is handed back
 pub volume_none : (o : Outcome Full) (r : Refusal) → Err r ≡ full_answer o → [] ≡ volume_part o

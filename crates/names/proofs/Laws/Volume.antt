@@ -1,6 +1,6 @@
 -- Laws of volume names: where one ends in a text, and which texts are one. Assumes nothing.
 use mathlib.Core.Path.{◌≡◌, refl, sym, ap, ◌∙◌}
-use mathlib.Core.Bool.{Bool, true, false, cond, ◌&&◌, ◌||◌, and-eq-true_iff}
+use mathlib.Core.Bool.{Bool, true, false, cond, ◌&&◌, and-eq-true_iff}
 use mathlib.Core.List.{List, [], ◌∷◌, ◌++◌}
 use Prim.Native.Nat.{ℕ, suc, ◌+◌, ◌≤◌, ◌<◌, min}
 use native.Mathlib.Omega.{arith}
@@ -8,18 +8,18 @@ use borrow.Author.Tests.{le-leb, lt-leb, leb-true}
 use lib.Dec.{leb, eqb, eqb-suc-suc, eqb-zero-suc}
 use lib.ListN.{length, take}
 use Rattle.std.specs.List.{prefix_len}
-use Rattle.codec.specs.declared.scan.Step.TheVariants.{Next, Stop}
+use Rattle.std.specs.Prelude.{Ok, Err}
 use Rattle.names.specs.Limits.{max_volume}
 use Rattle.names.specs.Volume.{volume_byte, volume_bytes, volume_allowed, volume_run, volume_at}
 
 -- what a run of volume bytes gives
-pub volume_short : (text : List ℕ) → volume_run text < 1 → Stop 0 ≡ volume_at text
+pub volume_short : (text : List ℕ) → volume_run text < 1 → Err 0 ≡ volume_at text
 volume_short text h = let e : min (volume_run text) max_volume ≡ 0 = omega arith in simp (lt-leb 1 (volume_run text) h, e)
 
-pub volume_long : (text : List ℕ) → max_volume < volume_run text → Stop max_volume ≡ volume_at text
+pub volume_long : (text : List ℕ) → max_volume < volume_run text → Err max_volume ≡ volume_at text
 volume_long text h = let e : min (volume_run text) max_volume ≡ max_volume = omega arith in simp (le-leb 1 (volume_run text) (omega arith), lt-leb (volume_run text) max_volume h, e)
 
-pub volume_right : (text : List ℕ) → 1 ≤ volume_run text → volume_run text ≤ max_volume → Next (volume_run text) 0 ≡ volume_at text
+pub volume_right : (text : List ℕ) → 1 ≤ volume_run text → volume_run text ≤ max_volume → Ok (volume_run text) ≡ volume_at text
 volume_right text h k = simp (le-leb 1 (volume_run text) h, le-leb (volume_run text) max_volume k)
 
 -- a run is the text's beginning of such bytes
@@ -58,11 +58,6 @@ run_all (b ∷ volume) = go (run_all volume) (volume_byte b) refl
         → volume_byte b && volume_bytes volume ≡ eqb (cond (volume_byte b) (suc (volume_run volume)) 0) (suc (length volume))
     go ih true e = rw e (ih ∙ sym (eqb-suc-suc (volume_run volume) (length volume)))
     go ih false e = rw e (sym (eqb-zero-suc (length volume)))
-
--- a test without a second half
-pub or_none : (t : Bool) → t ≡ t || false
-or_none true = refl
-or_none false = refl
 
 -- what a volume name is
 pub record Right (volume : List ℕ) : Type 0 where

@@ -13,7 +13,10 @@ use Rattle.outcomes.specs.Numbers.{not_of_form, short_buffer}
 use Rattle.outcomes.specs.Outcome.{Outcome, refused, done, refusal, first_of, too_short}
 use Rattle.outcomes.specs.Answers.{Answers}
 use Rattle.outcomes.specs.Outcome.{Refusal}
-use Rattle.std.specs.Prelude.{Result, Ok, Err}
+use Rattle.std.specs.Prelude.{Result, Ok, Err, IsErrAnd, MatchResult}
+use Rattle.std.proofs.lemmas.Result.{err_from_is_err_and}
+use Rattle.outcomes.specs.Answers.{answer_of}
+use Rattle.texts.specs.Inner.{read_by}
 use Rattle.outcomes.proofs.Laws.Answers.{answers_refused, answers_done}
 use Rattle.texts.specs.Parts.{Scan, found, stop}
 use Rattle.texts.specs.Calls.{write_text, reading, WriterRefuses}
@@ -100,3 +103,10 @@ reading_only stands (stop place) r e = cc
 
 pub writer_refuses : (allowed : Bool) (text : List ℕ) → WriterRefuses (write_text allowed text) allowed text
 writer_refuses allowed text = record { form = write_13 allowed text; short = write_12 allowed text; else = write_done allowed text }
+
+-- what a call that reads makes of the reading of all parts: its place is left out
+pub answers_read : {A B : Type 0} (says : List ℕ → B) (stands : List ℕ → A) (named : A → Result B Refusal) → ((ns : List ℕ) → Ok (says ns) ≡ named (stands ns)) → (s : Scan) (a : Result B Refusal) {Q : ℕ → Refusal → Type 0}
+    → MatchResult (read_by says s) (λ x. a ≡ Ok x) (λ i. IsErrAnd a (Q i)) → ((i : ℕ) (r : Refusal) → Q i r → r ≡ refusal not_of_form 0) → a ≡ answer_of Err named (reading stands s)
+unfolding read_by answer_of reading
+answers_read says stands named same (found ns) a m q = m ∙ same ns
+answers_read says stands named same (stop i) a m q = let p = err_from_is_err_and a m in p.1 ∙ ap Err (q i p.0 p.2)

@@ -10,31 +10,34 @@ use lib.Dec.{leb, eqb}
 use lib.ListN.{length, drop}
 use lib.Seq.{drop-drop, drop-append_seam}
 use Rattle.codec.specs.Decimal.{decimal, digit_of}
-use Rattle.codec.specs.Scan.{digit_at, decimal_at}
-use Rattle.codec.specs.declared.scan.Step.{Step}
-use Rattle.codec.specs.declared.scan.Step.TheVariants.{Next, Stop}
-use Rattle.codec.proofs.Laws.Scan.{next_stop, drop_tail, decimal_reads, decimal_writes}
+use Rattle.codec.specs.Scan.{digit_at, parsed, decimal_at}
+use Rattle.codec.specs.declared.scan.Parsed.{Parsed}
+use Rattle.std.specs.Prelude.{Result, Ok, Err}
+use Rattle.codec.proofs.Laws.Scan.{drop_tail, decimal_reads, decimal_writes}
 use Rattle.texts.specs.Parts.{Part, word, number, write, allows, word_at, end_at, Scan, found, stop, scan, onward, with}
 
 -- a word
-pub word_reads : (w : List ℕ) (i : ℕ) (text : List ℕ) (j v : ℕ) → word_at w i (drop i text) ≡ Next j v → drop i text ≡ w ++ drop j text
-unfolding word_at
-word_reads w i text j v r = go w i (drop i text) refl r
-  where
-    by_test : (a : ℕ) (w : List ℕ) (i b : ℕ) (t : List ℕ) → (word_at w (suc i) t ≡ Next j v → t ≡ w ++ drop j text) → (s : Bool) → eqb b a ≡ s
-        → cond s (word_at w (suc i) t) (Stop i) ≡ Next j v → b ∷ t ≡ a ∷ (w ++ drop j text)
-    by_test a w i b t ih true e r = rw (eqb-true b a e, ← ih r)
-    by_test a w i b t ih false e r = next_stop r
+ok_err : {A : Type 0} {i j : ℕ} → ◌≡◌ {A = Result ℕ ℕ} (Err i) (Ok j) → A
+ok_err e = let z : ◌≡◌ {A = ℕ} 0 1 = cc in absurd (omega arith)
 
-    go : (w : List ℕ) (i : ℕ) (t : List ℕ) → drop i text ≡ t → word_at w i t ≡ Next j v → t ≡ w ++ drop j text
+pub word_reads : (w : List ℕ) (i : ℕ) (text : List ℕ) (j : ℕ) → word_at w i (drop i text) ≡ Ok j → drop i text ≡ w ++ drop j text
+unfolding word_at
+word_reads w i text j r = go w i (drop i text) refl r
+  where
+    by_test : (a : ℕ) (w : List ℕ) (i b : ℕ) (t : List ℕ) → (word_at w (suc i) t ≡ Ok j → t ≡ w ++ drop j text) → (s : Bool) → eqb b a ≡ s
+        → cond s (word_at w (suc i) t) (Err i) ≡ Ok j → b ∷ t ≡ a ∷ (w ++ drop j text)
+    by_test a w i b t ih true e r = rw (eqb-true b a e, ← ih r)
+    by_test a w i b t ih false e r = ok_err r
+
+    go : (w : List ℕ) (i : ℕ) (t : List ℕ) → drop i text ≡ t → word_at w i t ≡ Ok j → t ≡ w ++ drop j text
     go [] i t e r = let p : i ≡ j = cc in sym e ∙ rw p
-    go (a ∷ w) i [] e r = next_stop r
+    go (a ∷ w) i [] e r = ok_err r
     go (a ∷ w) i (b ∷ t) e r = by_test a w i b t (go w (suc i) t (drop_tail i text b t e)) (eqb b a) refl r
 
-pub word_writes : (w : List ℕ) (i : ℕ) (r : List ℕ) → word_at w i (w ++ r) ≡ Next (i + length w) 0
+pub word_writes : (w : List ℕ) (i : ℕ) (r : List ℕ) → word_at w i (w ++ r) ≡ Ok (i + length w)
 unfolding word_at
-word_writes [] i r = ap (λ (k : ℕ). Next k 0) (sym (add-zero i))
-word_writes (a ∷ w) i r = simp (eq-eqb a a refl) (word_writes w (suc i) r ∙ ap (λ (k : ℕ). Next k 0) (omega arith))
+word_writes [] i r = ap Ok (sym (add-zero i))
+word_writes (a ∷ w) i r = simp (eq-eqb a a refl) (word_writes w (suc i) r ∙ ap Ok (omega arith))
 
 -- a form in which each number is followed by the text's end or by a word that begins with no digit
 unfoldable pub ends : List Part → Bool
@@ -60,21 +63,21 @@ pub scan_reads : (form : List Part) (text before : List ℕ) (i : ℕ) (ns : Lis
 unfolding scan write allows end_at
 scan_reads [] text before i ns r = go (drop i text) ns r
   where
-    go : (t ns : List ℕ) → onward (end_at i t) (λ j v. found []) ≡ found ns → Reads [] before t ns
+    go : (t ns : List ℕ) → onward (end_at i t) (λ j. found []) ≡ found ns → Reads [] before t ns
     go [] [] r = record { same = refl; allowed = refl }
     go [] (n ∷ ns) r = let z : ◌≡◌ {A = ℕ} 0 1 = cc in absurd (omega arith)
     go (b ∷ t) ns r = stop_found r
 scan_reads (word w ∷ form) text before i ns r = go (scan_reads form text before) (word_at w i (drop i text)) refl r
   where
     go : ((j : ℕ) (ns : List ℕ) → scan form text before j ≡ found ns → Reads form before (drop j text) ns)
-        → (s : Step) → word_at w i (drop i text) ≡ s → onward s (λ j v. scan form text before j) ≡ found ns → Reads (word w ∷ form) before (drop i text) ns
-    go ih (Next j v) e r =
+        → (s : Result ℕ ℕ) → word_at w i (drop i text) ≡ s → onward s (λ j. scan form text before j) ≡ found ns → Reads (word w ∷ form) before (drop i text) ns
+    go ih (Ok j) e r =
         let m = ih j ns r in
-        record { same = word_reads w i text j v e ∙ ap (λ (l : List ℕ). w ++ l) m.same; allowed = m.allowed }
-    go ih (Stop j) e r = stop_found r
+        record { same = word_reads w i text j e ∙ ap (λ (l : List ℕ). w ++ l) m.same; allowed = m.allowed }
+    go ih (Err j) e r = stop_found r
 scan_reads (number least most ∷ form) text before i ns r = go (λ v. scan_reads form text (v ∷ before)) (decimal_at (least before) (most before) i (drop i text)) refl r
   where
-    then_scan : (j v : ℕ) → decimal_at (least before) (most before) i (drop i text) ≡ Next j v → ((ns : List ℕ) → scan form text (v ∷ before) j ≡ found ns → Reads form (v ∷ before) (drop j text) ns)
+    then_scan : (j v : ℕ) → decimal_at (least before) (most before) i (drop i text) ≡ parsed j v → ((ns : List ℕ) → scan form text (v ∷ before) j ≡ found ns → Reads form (v ∷ before) (drop j text) ns)
         → (f : Scan) → scan form text (v ∷ before) j ≡ f → with v f ≡ found ns → Reads (number least most ∷ form) before (drop i text) ns
     then_scan j v e ih (found ms) f r =
         let m = ih ms f in
@@ -88,9 +91,9 @@ scan_reads (number least most ∷ form) text before i ns r = go (λ v. scan_read
     then_scan j v e ih (stop p) f r = stop_found r
 
     go : ((v j : ℕ) (ns : List ℕ) → scan form text (v ∷ before) j ≡ found ns → Reads form (v ∷ before) (drop j text) ns)
-        → (s : Step) → decimal_at (least before) (most before) i (drop i text) ≡ s → onward s (λ j v. with v (scan form text (v ∷ before) j)) ≡ found ns → Reads (number least most ∷ form) before (drop i text) ns
-    go ih (Next j v) e r = then_scan j v e (ih v j) (scan form text (v ∷ before) j) refl r
-    go ih (Stop j) e r = stop_found r
+        → (s : Result Parsed ℕ) → decimal_at (least before) (most before) i (drop i text) ≡ s → onward s (λ p. with p.value (scan form text (p.value ∷ before) p.at)) ≡ found ns → Reads (number least most ∷ form) before (drop i text) ns
+    go ih (Ok p) e r = then_scan p.at p.value e (ih p.value p.at) (scan form text (p.value ∷ before) p.at) refl r
+    go ih (Err j) e r = stop_found r
 
 pub ends_number : (form : List Part) (ns : List ℕ) → ends form ≡ true → 10 ≤ digit_at (write form ns)
 unfolding ends write digit_at

@@ -1,29 +1,25 @@
--- What one step of reading does: a word's next byte, the text's end, and each part of a form over the step before it. Assumes nothing.
+-- What one step of reading does: a word's next byte, the text's end, and each part of a form behind those before it. Assumes nothing.
 use mathlib.Core.Path.{◌≡◌, refl, sym, ap, ◌∙◌}
 use mathlib.Core.List.{List, [], ◌∷◌}
 use Prim.Native.Nat.{ℕ, suc, ◌≤◌, ◌<◌}
-use native.Mathlib.Omega.{arith}
 use borrow.Author.Tests.{eq-eqb, ne_eqb}
 use lib.ListN.{length, drop, get_or, drop_of_length-le}
 use lib.Seq.{drop-cons}
-use Rattle.codec.specs.declared.scan.Step.{Step}
-use Rattle.codec.specs.declared.scan.Step.TheVariants.{Next, Stop}
-use Rattle.codec.proofs.Laws.Scan.{decimal_reads, next_stop}
-use Rattle.texts.specs.Inner.{word_after, number_after, end_after, value_of}
-use Rattle.texts.specs.Parts.{Part, word, number, word_at, end_at, Scan, found, onward, with, scan}
-use Rattle.texts.specs.Calls.{reading}
-use Rattle.outcomes.specs.Numbers.{not_of_form}
-use Rattle.outcomes.specs.Outcome.{refusal}
-use Rattle.outcomes.specs.Answers.{answer_of}
-use Rattle.outcomes.specs.Outcome.{Refusal}
+use Rattle.std.specs.Prelude.{Result, Ok, Err, IsErrAnd}
+use Rattle.std.proofs.lemmas.Result.{err_from_is_err_and}
+use Rattle.codec.specs.Scan.{decimal_at}
+use Rattle.codec.specs.declared.scan.Parsed.{Parsed}
+use Rattle.codec.proofs.Laws.Scan.{decimal_reads}
+use Rattle.texts.specs.Inner.{read_by}
+use Rattle.texts.specs.Parts.{Part, word, number, word_at, end_at, Scan, found, stop, with, scan}
 
 -- a word's next byte
 module _ (w text : List ℕ) (k i : ℕ) (more : k < length w) where
-  pub word_past : length text ≤ i → word_at (drop k w) i (drop i text) ≡ Stop i
+  pub word_past : length text ≤ i → word_at (drop k w) i (drop i text) ≡ Err i
   unfolding word_at
   word_past h = rw (drop-cons w k 0 more, drop_of_length-le text h)
 
-  pub word_differs : i < length text → (get_or text i 0 ≡ get_or w k 0 → ⊥) → word_at (drop k w) i (drop i text) ≡ Stop i
+  pub word_differs : i < length text → (get_or text i 0 ≡ get_or w k 0 → ⊥) → word_at (drop k w) i (drop i text) ≡ Err i
   unfolding word_at
   word_differs h e = rw (drop-cons w k 0 more, drop-cons text i 0 h, ne_eqb _ _ e)
 
@@ -32,73 +28,66 @@ module _ (w text : List ℕ) (k i : ℕ) (more : k < length w) where
   word_same h e = rw (drop-cons w k 0 more, drop-cons text i 0 h, eq-eqb _ _ e)
 
 -- the end of the text
-pub end_past : (i : ℕ) (text : List ℕ) → length text ≤ i → end_at i (drop i text) ≡ Next i 0
+pub end_past : (i : ℕ) (text : List ℕ) → length text ≤ i → end_at i (drop i text) ≡ Ok i
 unfolding end_at
 end_past i text h = rw (drop_of_length-le text h)
 
-pub end_before : (i : ℕ) (text : List ℕ) → i < length text → end_at i (drop i text) ≡ Stop i
+pub end_before : (i : ℕ) (text : List ℕ) → i < length text → end_at i (drop i text) ≡ Err i
 unfolding end_at
 end_before i text h = rw (drop-cons text i 0 h)
 
--- scanning from a step: each part takes its own step
-module _ (form : List Part) (text before : List ℕ) where
-  abbrev pub scan_on : List Part → List ℕ → Step → Scan
-  scan_on rest earlier s = onward s (λ i v. scan rest text earlier i)
+-- a scan's numbers with those that were read before it, the latest first
+abbrev pub behind : List ℕ → Scan → Scan
+behind [] s = s
+behind (v ∷ before) s = behind before (with v s)
 
-  pub on_word : (w : List ℕ) (s t : Step) → t ≡ word_after w text s → scan_on (word w ∷ form) before s ≡ scan_on form before t
+behind_stop : (before : List ℕ) (i : ℕ) → behind before (stop i) ≡ stop i
+behind_stop [] i = refl
+behind_stop (v ∷ before) i = behind_stop before i
+
+-- what a reader answers that gave up at j
+pub stopped : {A : Type 0} (stands : List ℕ → A) (whole : Scan) (before : List ℕ) (j : ℕ) (x : Result A ℕ) → whole ≡ behind before (stop j) → IsErrAnd x (λ y. y ≡ j) → x ≡ read_by stands whole
+unfolding read_by
+stopped stands whole before j x e h = let p = err_from_is_err_and x h in rw (p.1, p.2, e, behind_stop before j)
+
+-- A reader that goes by a form: the scan of the whole text is that of what is left of the form, from place i on, behind the numbers read
+-- before. Each part leads on to the next, or stops the whole.
+pub record Left (text : List ℕ) (whole : Scan) (form : List Part) (before : List ℕ) (i : ℕ) : Type 0 where
+  pub is : whole ≡ behind before (scan form text before i)
+
+pub begun : (text : List ℕ) (form : List Part) (i : ℕ) → Left text (scan form text [] i) form [] i
+begun text form i = record { is = refl }
+
+module _ {text : List ℕ} {whole : Scan} {form : List Part} {before : List ℕ} {i : ℕ} where
+  pub word_on : {w : List ℕ} {r : Result ℕ ℕ} {j : ℕ} → Left text whole (word w ∷ form) before i → r ≡ word_at w i (drop i text) → r ≡ Ok j → Left text whole form before j
   unfolding scan
-  on_word w (Next i v) t e = rw e
-  on_word w (Stop i) t e = rw e
+  word_on l e o = record { is = l.is ∙ rw (sym e ∙ o) }
 
-  on_number : (least most : List ℕ → ℕ) (s t : Step) → t ≡ number_after (least before) (most before) text s
-      → scan_on (number least most ∷ form) before s ≡ with (value_of t) (scan_on form (value_of t ∷ before) t)
+  pub number_on : {least most : List ℕ → ℕ} {r : Result Parsed ℕ} {p : Parsed} → Left text whole (number least most ∷ form) before i → r ≡ decimal_at (least before) (most before) i (drop i text)
+      → r ≡ Ok p → Left text whole form (p.value ∷ before) p.at
   unfolding scan
-  on_number least most (Next i v) t e = rw (← e) (go t)
-    where
-      go : (s : Step) → onward s (λ j u. with u (scan form text (u ∷ before) j)) ≡ with (value_of s) (scan_on form (value_of s ∷ before) s)
-      go (Next j u) = refl
-      go (Stop j) = refl
-  on_number least most (Stop i) t e = rw e
+  number_on l e o = record { is = l.is ∙ rw (sym e ∙ o) }
 
-on_end : (text before : List ℕ) (s t : Step) → t ≡ end_after text s → onward s (λ i v. scan [] text before i) ≡ onward t (λ i v. found [])
-unfolding scan
-on_end text before (Next i v) t e = rw e
-on_end text before (Stop i) t e = rw e
+module _ {text : List ℕ} {whole : Scan} {before : List ℕ} {i : ℕ} {A : Type 0} (stands : List ℕ → A) where
+  pub end_on : {r : Result ℕ ℕ} {j : ℕ} → Left text whole [] before i → r ≡ end_at i (drop i text) → r ≡ Ok j → read_by stands (behind before (found [])) ≡ read_by stands whole
+  unfolding scan
+  end_on l e o = ap (read_by stands) (sym (l.is ∙ rw (sym e ∙ o)))
 
--- The steps of a reader that goes by a form, one for each part: from s, with the numbers read before it, to `last`, the step of the text's
--- end; ns are the numbers read on the way.
-pub data Chain (text : List ℕ) : List Part → List ℕ → Step → List ℕ → Step → Type 0 where
-  by_end : {before : List ℕ} {s t : Step} → t ≡ end_after text s → Chain text [] before s [] t
-  by_word : {form : List Part} {before ns w : List ℕ} {s t last : Step} → t ≡ word_after w text s → Chain text form before t ns last → Chain text (word w ∷ form) before s ns last
-  by_number : {form : List Part} {before ns : List ℕ} {least most : List ℕ → ℕ} {s t last : Step} → t ≡ number_after (least before) (most before) text s
-      → Chain text form (value_of t ∷ before) t ns last → Chain text (number least most ∷ form) before s (value_of t ∷ ns) last
+  pub end_stops : {r : Result ℕ ℕ} {j : ℕ} {x : Result A ℕ} → Left text whole [] before i → r ≡ end_at i (drop i text) → r ≡ Err j → IsErrAnd x (λ y. y ≡ j) → x ≡ read_by stands whole
+  unfolding scan
+  end_stops l e o h = stopped stands whole before _ _ (l.is ∙ rw (sym e ∙ o)) h
 
-with_onward : (v : ℕ) (ns : List ℕ) (s : Step) → with v (onward s (λ i u. found ns)) ≡ onward s (λ i u. found (v ∷ ns))
-with_onward v ns (Next i u) = refl
-with_onward v ns (Stop i) = refl
+  module _ {form : List Part} where
+    pub word_stops : {w : List ℕ} {r : Result ℕ ℕ} {j : ℕ} {x : Result A ℕ} → Left text whole (word w ∷ form) before i → r ≡ word_at w i (drop i text) → r ≡ Err j
+        → IsErrAnd x (λ y. y ≡ j) → x ≡ read_by stands whole
+    unfolding scan
+    word_stops l e o h = stopped stands whole before _ _ (l.is ∙ rw (sym e ∙ o)) h
 
--- its last step decides
-chain_scan : {text before ns : List ℕ} {form : List Part} {s last : Step} → Chain text form before s ns last → onward s (λ i v. scan form text before i) ≡ onward last (λ i v. found ns)
-chain_scan {text} {before} (by_end {s = s} {t} e) = on_end text before s t e
-chain_scan {text} {before} (by_word {form} {w = w} {s} {t} e c) = on_word form text before w s t e ∙ chain_scan c
-chain_scan {text} {before} (by_number {form} {ns = ns} {least} {most} {s} {t} {last} e c) =
-    on_number form text before least most s t e ∙ ap (with (value_of t)) (chain_scan c) ∙ with_onward (value_of t) ns last
-
--- what the reader then answers
-module _ {A X : Type 0} (refuse : Refusal → X) (say : A → X) (stands : List ℕ → A) {text ns : List ℕ} {form : List Part} {s last : Step} (chain : Chain text form [] s ns last) where
-  -- the text ends where the form does
-  pub answer_found : {i v : ℕ} → last ≡ Next i v → say (stands ns) ≡ answer_of refuse say (reading stands (onward s (λ i v. scan form text [] i)))
-  unfolding answer_of reading
-  answer_found e = rw (chain_scan chain, e)
-
-  -- the text is not of the form
-  pub answer_stopped : {i : ℕ} {r : Refusal} → last ≡ Stop i → r ≡ refusal not_of_form 0 → refuse r ≡ answer_of refuse say (reading stands (onward s (λ i v. scan form text [] i)))
-  unfolding answer_of reading
-  answer_stopped e er = rw (chain_scan chain, e, er)
+    pub number_stops : {least most : List ℕ → ℕ} {r : Result Parsed ℕ} {j : ℕ} {x : Result A ℕ} → Left text whole (number least most ∷ form) before i
+        → r ≡ decimal_at (least before) (most before) i (drop i text) → r ≡ Err j → IsErrAnd x (λ y. y ≡ j) → x ≡ read_by stands whole
+    unfolding scan
+    number_stops l e o h = stopped stands whole before _ _ (l.is ∙ rw (sym e ∙ o)) h
 
 -- a number that was read is within its bound
-pub value_within : (least most : ℕ) (text : List ℕ) (s t : Step) → t ≡ number_after least most text s → value_of t ≤ most
-value_within least most text (Next i v) (Next j n) e = (decimal_reads least most i text j n (sym e)).within
-value_within least most text (Next i v) (Stop j) e = omega arith
-value_within least most text (Stop i) (Next j n) e = next_stop (sym e)
-value_within least most text (Stop i) (Stop j) e = omega arith
+pub value_within : (least most i : ℕ) (text : List ℕ) (r : Result Parsed ℕ) (p : Parsed) → r ≡ decimal_at least most i (drop i text) → r ≡ Ok p → p.value ≤ most
+value_within least most i text r p e o = (decimal_reads least most i text p.at p.value (sym e ∙ o)).within

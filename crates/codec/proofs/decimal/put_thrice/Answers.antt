@@ -31,7 +31,8 @@ put_pair_thrice-requires c =
       omega arith,
       omega (arith, n, c.loop-rest.invariant.1, c.requires.1),
       omega (arith, n, c.loop-rest.invariant.1, c.requires.2),
-      omega (arith, n, c.loop-rest.invariant.1, c.loop-rest.invariant.2, c.requires.3))
+      omega (arith, n, c.loop-rest.invariant.1, c.loop-rest.invariant.2, c.requires.3),
+    )
 
 pub loop-rest-preserved : goal.loop-rest-preserved
 loop-rest-preserved c =

@@ -1,11 +1,11 @@
--- `texts::scan::read_word` meets its contract. The invariant: the rest of the word, from the place reached, decides. Assumes nothing.
+-- `texts::scan::word` meets its contract. The invariant: the rest of the word, from the place reached, decides. Assumes nothing.
 use lib.ListN.{drop_of_length-le}
 use Rattle.texts.proofs.Laws.Steps.{word_past, word_differs, word_same}
 use mathlib.Core.Path.{sym, ◌∙◌}
 use native.Mathlib.Numerals.{add-one}
 use Rattle.texts.specs.Parts.{word_at}
-use Rattle.texts.proofs.scan.read_word.Goals as goal
-use Rattle.texts.proofs.scan.read_word.Goals.{then-text-i-via-then-text-i, then-text-i-via-else-text-i+then-text-i-2}
+use Rattle.texts.proofs.scan.word.Goals as goal
+use Rattle.texts.proofs.scan.word.Goals.{then-text-i-via-then-text-i, then-text-i-via-else-text-i+then-text-i-2}
 
 pub returns-then-text-i : goal.returns-then-text-i
 returns-then-text-i c =
