@@ -6,7 +6,7 @@ pub mod locations;
 mod objects;
 pub mod reach;
 pub mod rooms;
-mod shifts;
+pub mod shifts;
 pub mod walk;
 
 ghost use Rattle.std.specs.Prelude.{◌^◌, ◌<◌, length};

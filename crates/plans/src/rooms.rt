@@ -10,8 +10,8 @@ ghost use Rattle.slices.specs.Record.{records, count};
 ghost use Rattle.plans.specs.Piece.{chunk_bytes};
 ghost use Rattle.plans.specs.Plan.{pieces};
 
+use crate::shifts::BlockSize;
 use crate::walk;
-use blocks::bits_of;
 use outcomes::Refusal;
 use resolve::segments::Resolved;
 use slices::RECORD;
@@ -49,7 +49,7 @@ pub fn sized<const N: usize, const MARKS: usize, const TOPS: usize>(
         tops: &tops,
         segments,
     };
-    walk::answer(&r, from, end, block, bits_of(block), index, out)
+    walk::answer(&r, from, end, BlockSize::of(block), index, out)
 }
 
 // For more than 32 records, or as many as you like.
