@@ -5,8 +5,6 @@ use native.Mathlib.Nat.{le_refl}
 use mathlib.Core.Path.{◌≡◌, ap, ◌∙◌}
 use mathlib.Core.Bool.{true}
 use mathlib.Core.List.{List}
-use Rattle.blocks.specs.Blocks.{block_allowed}
-use Rattle.blocks.proofs.Laws.Blocks.{block_range}
 use Rattle.resolve.specs.Resolved.{OnTop}
 use Rattle.slices.specs.Record.{count}
 use Rattle.scanning.specs.Scan.{Scans, Clear}
@@ -20,9 +18,6 @@ use Rattle.slices.specs.declared.Record.{Record}
 use Rattle.scanning.specs.declared.Scanned.{Scanned}
 use Rattle.plans.specs.declared.Location.{Location}
 use Rattle.plans.specs.declared.Piece.{Piece}
-
-pub block_some : (B : ℕ) → block_allowed B ≡ true → 0 < B
-block_some B h = omega (arith, (block_range B h).0)
 
 -- ---- what a scan found
 

@@ -37,7 +37,7 @@ pub scanned_at-piece-requires : goal.scanned_at-piece-requires
 unfolding chunk
 scanned_at-piece-requires c =
     let e = c.part-part.ensures in
-    record { accepts = (here_accepted _ _ _ _ _ c.begins-from.ensures refl (within (goal.at.scanned_at-piece-requires c).Start) c.requires.lengths_value.1, c.requires.lengths_len_bound.2); p_lt_end = (part_some _ _ e.0 e.1 c.requires.p_lt_end.0, part_short _ _ e.0 e.1) }
+    record { accepts = here_accepted _ _ _ _ _ c.begins-from.ensures refl (within (goal.at.scanned_at-piece-requires c).Start) c.requires.lengths_value.1; p_lt_end = (part_some _ _ e.0 e.1 c.requires.p_lt_end.0, part_short _ _ e.0 e.1) }
 
 pub returns-then-piece-gt0 : goal.returns-then-piece-gt0
 unfolding chunk
@@ -50,7 +50,7 @@ pub resolved_at-requires : goal.resolved_at-requires
 unfolding chunk
 resolved_at-requires c =
     let e = c.part-part.ensures in
-    record { accepts = (here_accepted _ _ _ _ _ c.begins-from.ensures refl (within (goal.at.resolved_at-requires c).Start) c.requires.lengths_value.1, c.requires.lengths_len_bound.2); p_lt_end = (part_some _ _ e.0 e.1 c.requires.p_lt_end.0, part_short _ _ e.0 e.1) }
+    record { accepts = here_accepted _ _ _ _ _ c.begins-from.ensures refl (within (goal.at.resolved_at-requires c).Start) c.requires.lengths_value.1; p_lt_end = (part_some _ _ e.0 e.1 c.requires.p_lt_end.0, part_short _ _ e.0 e.1) }
 
 pub returns : goal.returns
 unfolding chunk

@@ -7,21 +7,16 @@ use mathlib.Core.Bool.{false}
 use Rattle.slices.specs.Record.{records, count}
 use Rattle.runs.specs.Inner.{Unbroken}
 use Rattle.runs.proofs.Laws.Walk.{leads_stops, leads_parts, leads_end}
-use Rattle.plans.specs.Inner.{Shifts}
 use Rattle.plans.specs.Location.{location_at, next_location, onward}
 use Rattle.plans.proofs.Laws.Locations.{onward-zero, next_location_is}
 use Rattle.plans.proofs.Laws.Shifts.{shifts_some}
 use Rattle.plans.proofs.Laws.Tops.{tops_part}
 use Rattle.stepping.proofs.Laws.Ends.{top_here, below_there, scan_unbroken}
 use Rattle.stepping.proofs.ends.end_of.Goals as goal
-use Rattle.stepping.proofs.ends.end_of.Goals.{After-bits_of-bits, After-same_top_to-e}
-
--- a block has as many bytes as its bits say
-shifts : (c : After-bits_of-bits) → Shifts c.args.block c.bits_of-bits.result
-shifts c = record { power = c.bits_of-bits.ensures.0; few = c.bits_of-bits.ensures.1 }
+use Rattle.stepping.proofs.ends.end_of.Goals.{After-same_top_to-e}
 
 -- up to e the locations go on
-unbroken : (c : After-same_top_to-e) → let a = c.args in Unbroken next_location (location_at a.block (records a.list.now)) a.p a.end c.same_top_to-e.result
+unbroken : (c : After-same_top_to-e) → let a = c.args in Unbroken next_location (location_at a.block.bytes (records a.list.now)) a.p a.end c.same_top_to-e.result
 unbroken c = scan_unbroken _ _ _ _ c.requires.scans _ _ _ c.same_top_to-e.ensures.unbroken
 
 pub returns-then-e-stop : goal.returns-then-e-stop
@@ -41,7 +36,7 @@ id_on-id-requires c = λ i e. (c.requires.scans.here.covering i e).0
 pub top_below-next-requires : goal.top_below-next-requires
 top_below-next-requires c =
     let t = below_there _ _ _ _ c.requires.scans _ c.same_top_to-e.ensures.unbroken.inside c.if-e-stop.false c.if-end-e.false in
-    record { all = c.requires.accepts.0.pass; before_bound = (t.0, c.requires.accepts.0.few); clear = t.1 }
+    record { all = c.requires.accepts.pass; before_bound = (t.0, c.requires.accepts.few); clear = t.1 }
 
 pub id_on-requires : goal.id_on-requires
 id_on-requires c = λ i e. (c.top_below-next.ensures.covering i e).0
@@ -54,15 +49,11 @@ returns-then-id_on-id c =
 
 pub lies_behind-requires : goal.lies_behind-requires
 lies_behind-requires c =
-    record { all = c.requires.accepts.0.pass; p_lt_e = (c.same_top_to-e.ensures.unbroken.some, shifts_some _ _ (shifts (goal.at.lies_behind-requires c).After-bits_of-bits)); on_top = top_here _ _ _ _ c.requires.scans; on_top_2 = c.top_below-next.ensures }
+    record { all = c.requires.accepts.pass; p_lt_e = (c.same_top_to-e.ensures.unbroken.some, shifts_some _ _ c.args.block.shifts); on_top = top_here _ _ _ _ c.requires.scans; on_top_2 = c.top_below-next.ensures }
 
 pub sized-found-requires-clause-accepts : goal.sized-found-requires-clause-accepts
 unfolding count
-sized-found-requires-clause-accepts c = (c.requires.accepts.0, c.if-list-le32.true)
-
-pub sized-found-requires-clause-p_lt_end : goal.sized-found-requires-clause-p_lt_end
-sized-found-requires-clause-p_lt_end c =
-    (c.requires.p_lt_end.0, c.requires.p_lt_end.1, shifts (goal.at.sized-found-requires-clause-p_lt_end c).After-bits_of-bits)
+sized-found-requires-clause-accepts c = (c.requires.accepts, c.if-list-le32.true)
 
 pub returns-then-list-le32 : goal.returns-then-list-le32
 returns-then-list-le32 c =
