@@ -25,12 +25,12 @@ overflow_sub-at c = c.loop-at.invariant.2
 
 pub same_at-requires : goal.same_at-requires
 same_at-requires c =
-    record { all = (ready_of c.args.r.now.ready).pass; block_nonzero = shifts_some _ _ c.requires.q_lt_end.3; on_top = resolved_at _ _ _ _ _ (ready_of c.args.r.now.ready).resolved _ _ c.loop-at.invariant.1 }
+    record { all = (ready_of c.args.r.now.ready).pass; block_nonzero = shifts_some _ _ c.args.block.shifts; on_top = resolved_at _ _ _ _ _ (ready_of c.args.r.now.ready).resolved _ _ c.loop-at.invariant.1 }
 
 pub same_block_to-at-requires : goal.same_block_to-at-requires
 same_block_to-at-requires c =
     let i = c.loop-at.invariant in
-    record { p_lt_end = (i.3, c.requires.q_lt_end.3); holds = i.1 }
+    record { p_lt_end = i.3; holds = i.1 }
 
 pub returns-then-end-at : goal.returns-then-end-at
 returns-then-end-at c =

@@ -15,7 +15,7 @@ loop-i-init c = (λ j l. absurd (omega arith), some_segment _ _ _ _ (ready_of c.
 
 pub overflow_add-at : goal.overflow_add-at
 overflow_add-at c =
-    let f = form_read _ _ _ _ _ _ c.requires.limit_in_bounds.1 c.loop-i-test.true c.read_piece-p.ensures in omega (arith, f.inside, c.requires.n_bound.0)
+    let f = form_read _ _ _ _ _ _ c.requires.limit_in_bounds.1 c.loop-i-test.true c.read_piece-p.ensures in omega (arith, f.inside, c.requires.n_bound)
 
 pub overflow_add-q : goal.overflow_add-q
 unfolding chunk
@@ -26,7 +26,7 @@ pub meet-met-requires : goal.meet-met-requires
 unfolding chunk
 meet-met-requires c =
     let f = form_read _ _ _ _ _ _ c.requires.limit_in_bounds.1 c.loop-i-test.true c.read_piece-p.ensures in
-    record { q_lt_end = (omega (arith, f.some), f.fits, c.loop-i.invariant.1, c.requires.n_bound.1) }
+    record { q_lt_end = (omega (arith, f.some), f.fits, c.loop-i.invariant.1) }
 
 pub returns-then-not-met : goal.returns-then-not-met
 unfolding chunk
