@@ -5,7 +5,7 @@ mod ends;
 mod ids;
 mod new_list;
 
-ghost use Rattle.std.specs.Prelude.{◌≡◌, ◌-◌, ◌≤◌, length};
+ghost use Rattle.std.specs.Prelude.{◌-◌, ◌≤◌, length};
 ghost use Rattle.codec.specs.All.{All};
 ghost use Rattle.outcomes.specs.Answers.{Answers};
 ghost use Rattle.outcomes.specs.Outcome.{done, first_of, delivered};

@@ -1,5 +1,5 @@
 // The object of a position that a record gives, number by number.
-ghost use Rattle.std.specs.Prelude.{◌≡◌, ◌≢◌, ◌+◌, ◌-◌, ◌*◌, ◌/◌, ◌%◌, ◌^◌, ◌<◌, ◌≤◌, length};
+ghost use Rattle.std.specs.Prelude.{◌≡◌, ◌≢◌, ◌+◌, ◌*◌, ◌/◌, ◌%◌, ◌^◌, ◌<◌, ◌≤◌, length};
 ghost use Rattle.blocks.specs.Blocks.{block_length};
 ghost use Rattle.slices.specs.Limits.{record_size};
 ghost use Rattle.slices.specs.Passes.{Passes};
