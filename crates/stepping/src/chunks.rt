@@ -1,5 +1,5 @@
 // The piece of a file's lists that starts at a position.
-ghost use Rattle.std.specs.Prelude.{◌≡◌, [], ◌+◌, ◌-◌, ◌*◌, ◌/◌, ◌%◌, ◌^◌, ◌<◌, ◌≤◌, length, get_or};
+ghost use Rattle.std.specs.Prelude.{◌≡◌, [], ◌+◌, ◌*◌, ◌/◌, ◌%◌, ◌^◌, ◌<◌, ◌≤◌, length, get_or};
 ghost use Rattle.codec.specs.All.{All};
 ghost use Rattle.slices.specs.Accepts.{Accepts};
 ghost use Rattle.slices.specs.Limits.{chunk};
@@ -44,8 +44,14 @@ pub(crate) fn piece_in(
     let stop = part.end;
     let from = begins(lists, lengths, k as usize);
     let to = from + lengths[k as usize] as usize;
-    let piece = pieces::scanned_at(&lists[from..to], index, place, part.from, stop, block);
-    if 0 < piece.len {
+    if let Some(piece) = pieces::scanned_at(
+        &lists[from..to],
+        index,
+        place,
+        part.from,
+        stop,
+        block,
+    ) {
         return piece;
     }
     pieces::resolved_at(&lists[from..to], index, place, part.from, stop, block)

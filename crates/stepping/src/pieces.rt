@@ -1,5 +1,5 @@
 // The piece of a list that starts at a position.
-ghost use Rattle.std.specs.Prelude.{◌≡◌, ◌+◌, ◌-◌, ◌<◌, ◌≤◌};
+ghost use Rattle.std.specs.Prelude.{◌≡◌, ◌+◌, ◌-◌, ◌<◌, ◌≤◌, IfSome};
 ghost use Rattle.slices.specs.Accepts.{Accepts};
 ghost use Rattle.slices.specs.Limits.{chunk};
 ghost use Rattle.slices.specs.Record.{records};
@@ -64,7 +64,7 @@ fn piece_with(
     piece_of(index, place, e - p, first)
 }
 
-// The piece that starts at position p, and ends at `end` at the latest, by one scan; one of no bytes where that does not tell.
+// The piece that starts at position p, and ends at `end` at the latest, by one scan, if that tells.
 pub(crate) fn scanned_at(
     list: &[u8],
     index: u32,
@@ -72,14 +72,14 @@ pub(crate) fn scanned_at(
     p: u32,
     end: u32,
     block: BlockSize,
-) -> Piece
+) -> Option<Piece>
     requires accepts { Accepts list.now }
     requires p_lt_end { (p < end) × (end ≤ chunk) }
-    ensures { 0 < result.len → PieceFrom block.bytes (records list.now) index place p end result }
+    ensures { IfSome result (λ piece. PieceFrom block.bytes (records list.now) index place p end piece) }
 {
     let s = scanning::scan(list, p, end);
-    let e = ends::end_of(list, s, p, end, block);
-    piece_with(list, s.top, index, place, p, e, block)
+    let e = ends::end_of(list, s, p, end, block)?;
+    Some(piece_with(list, s.top, index, place, p, e, block))
 }
 
 // The same by the whole list resolved. It has two callers, and so a frame of its own: a piece that the scan tells does not pay for the room.
@@ -112,8 +112,7 @@ pub(crate) fn piece_at(
     requires p_lt_end { (p < end) × (end ≤ chunk) }
     ensures { PieceFrom block.bytes (records list.now) index place p end result }
 {
-    let piece = scanned_at(list, index, place, p, end, block);
-    if 0 < piece.len {
+    if let Some(piece) = scanned_at(list, index, place, p, end, block) {
         return piece;
     }
     resolved_at(list, index, place, p, end, block)

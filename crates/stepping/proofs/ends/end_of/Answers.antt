@@ -1,7 +1,5 @@
 -- `stepping::ends::end_of` meets its contract: the piece ends with a block, at the end, or where the next record parts.
 -- Assumes nothing.
-use native.Mathlib.Omega.{arith}
-use native.Mathlib.Nat.{le_refl}
 use mathlib.Core.Path.{refl, sym, ◌∙◌}
 use mathlib.Core.Bool.{false}
 use Rattle.slices.specs.Record.{records, count}
@@ -23,12 +21,12 @@ pub returns-then-e-stop : goal.returns-then-e-stop
 returns-then-e-stop c =
     let stop = c.if-e-stop.true in
     let u = unbroken (goal.at.returns-then-e-stop c).After-same_top_to-e in
-    (omega (arith, u.some), (λ m. leads_stops next_location onward onward-zero next_location_is _ _ _ _ u (λ q h l. c.same_top_to-e.ensures.stops stop q h stop)))
+    leads_stops next_location onward onward-zero next_location_is _ _ _ _ u (λ q h l. c.same_top_to-e.ensures.stops stop q h stop)
 
 pub returns-then-end-e : goal.returns-then-end-e
 returns-then-end-e c =
     let u = unbroken (goal.at.returns-then-end-e c).After-same_top_to-e in
-    (omega (arith, u.some), (λ m. leads_end next_location onward onward-zero next_location_is _ _ _ _ u _ refl c.if-end-e.true))
+    leads_end next_location onward onward-zero next_location_is _ _ _ _ u _ refl c.if-end-e.true
 
 pub id_on-id-requires : goal.id_on-id-requires
 id_on-id-requires c = λ i e. (c.requires.scans.here.covering i e).0
@@ -45,7 +43,7 @@ pub returns-then-id_on-id : goal.returns-then-id_on-id
 returns-then-id_on-id c =
     let u = unbroken (goal.at.returns-then-id_on-id c).After-same_top_to-e in
     let parts = tops_part _ _ _ _ _ _ _ (top_here _ _ _ _ c.requires.scans) c.top_below-next.ensures (λ e. c.if-id_on-id.true (c.id_on.ensures ∙ e ∙ sym c.id_on-id.ensures)) in
-    (omega (arith, u.some), (λ m. leads_parts next_location onward onward-zero next_location_is _ _ _ _ u _ _ false refl refl parts refl))
+    leads_parts next_location onward onward-zero next_location_is _ _ _ _ u _ _ false refl refl parts refl
 
 pub lies_behind-requires : goal.lies_behind-requires
 lies_behind-requires c =
@@ -56,14 +54,12 @@ unfolding count
 sized-found-requires-clause-accepts c = (c.requires.accepts, c.if-list-le32.true)
 
 pub returns-then-list-le32 : goal.returns-then-list-le32
-returns-then-list-le32 c =
-    let l = c.sized-found.ensures.leads in
-    (omega (arith, l.some), (λ m. l))
+returns-then-list-le32 c = c.sized-found.ensures.leads
 
 pub returns-then-lies_behind : goal.returns-then-lies_behind
-returns-then-lies_behind c = (le_refl _, (λ m. absurd (omega (arith, m))))
+returns-then-lies_behind c = tt
 
 pub returns : goal.returns
 returns c =
     let u = unbroken (goal.at.returns c).After-same_top_to-e in
-    (omega (arith, u.some), (λ m. leads_parts next_location onward onward-zero next_location_is _ _ _ _ u _ _ _ refl refl c.lies_behind.ensures c.if-lies_behind.false))
+    leads_parts next_location onward onward-zero next_location_is _ _ _ _ u _ _ _ refl refl c.lies_behind.ensures c.if-lies_behind.false
