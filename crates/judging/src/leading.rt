@@ -1,11 +1,10 @@
 // The pieces at the front of a plan that stand in order and lie where they say: of most plans that is all of them.
-ghost use Rattle.std.specs.Prelude.{◌≡◌, true, false, ◌+◌, ◌*◌, ◌/◌, ◌^◌, ◌<◌, ◌≤◌, length};
+ghost use Rattle.std.specs.Prelude.{◌≡◌, true, ◌+◌, ◌/◌, ◌^◌, ◌≤◌, length};
 ghost use Rattle.slices.specs.Record.{records};
 ghost use Rattle.coverage.specs.Inner.{InOrder};
 ghost use Rattle.plans.specs.Piece.{piece_size};
 ghost use Rattle.codec.specs.All.{All};
 ghost use Rattle.joined.specs.Lists.{total, parts};
-ghost use Rattle.plans.specs.declared.Piece.{Piece};
 ghost use Rattle.files.specs.Inner.{Fits};
 ghost use Rattle.files.specs.Limits.{max_lists};
 ghost use Rattle.judging.specs.Inner.{formed, chunk_of, Led, Leads};
@@ -70,9 +69,8 @@ fn lead_on(
         let p = pieces::read_piece(plan, number * PIECE);
         if comes_next(p, place, k, first, from, n) {
             let q = (from + place) % CHUNK;
-            let met = places::meet(r, near, q, q + p.len, block, p);
-            near = met.segment;
-            if met.same {
+            if let Some(segment) = places::meet(r, near, q, q + p.len, block, p) {
+                near = segment;
                 number += 1;
                 place += p.len;
             } else {

@@ -1,5 +1,5 @@
 // The first piece of a plan that is wrong in itself, in whatever order the pieces stand: list by list, so that each is resolved once.
-ghost use Rattle.std.specs.Prelude.{◌≡◌, false, ◌+◌, ◌*◌, ◌/◌, ◌^◌, ◌<◌, ◌≤◌, length};
+ghost use Rattle.std.specs.Prelude.{◌≡◌, false, ◌+◌, ◌/◌, ◌^◌, ◌<◌, ◌≤◌, length};
 ghost use Rattle.slices.specs.Record.{records};
 ghost use Rattle.plans.specs.Piece.{piece_size};
 ghost use Rattle.codec.specs.All.{All};
@@ -53,9 +53,9 @@ fn sift_on(
         let at = from + p.place;
         if at / CHUNK == k {
             let q = at % CHUNK;
-            let met = places::meet(r, near, q, q + p.len, block, p);
-            near = met.segment;
-            if !met.same {
+            if let Some(segment) = places::meet(r, near, q, q + p.len, block, p) {
+                near = segment;
+            } else {
                 return i;
             }
         }

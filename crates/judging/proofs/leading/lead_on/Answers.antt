@@ -26,9 +26,9 @@ overflow_add-q-then-comes_next c =
     let t = c.comes_next.ensures c.if-comes_next.true in
     omega (arith, next_fits _ _ _ _ _ t.0 t.1)
 
-pub meet-met-requires : goal.meet-met-requires
+pub meet-requires : goal.meet-requires
 unfolding chunk
-meet-met-requires c =
+meet-requires c =
     let t = c.comes_next.ensures c.if-comes_next.true in
     let s = next_some _ _ _ _ _ t.0 t.1 in
     record { q_lt_end = (omega arith, next_fits _ _ _ _ _ t.0 t.1, c.loop-number.invariant.1) }
@@ -46,10 +46,11 @@ pub loop-number-preserved : goal.loop-number-preserved
 unfolding chunk
 loop-number-preserved c =
     let t = c.comes_next.ensures c.if-comes_next.true in
-    (leads_more _ _ _ _ _ _ _ _ _ _ c.read_piece-p.ensures t.0 t.1 c.loop-number.invariant.0 c.loop-number-test.true t.2 _ _ refl refl (c.meet-met.ensures.lies_at.0 c.if-met.true), c.meet-met.ensures.segment_lt_m)
+    let m = rw c.in-Some.is at c.meet.ensures in
+    (leads_more _ _ _ _ _ _ _ _ _ _ c.read_piece-p.ensures t.0 t.1 c.loop-number.invariant.0 c.loop-number-test.true t.2 _ _ refl refl m.0, m.1)
 
-pub returns-else-met : goal.returns-else-met
-returns-else-met c = c.loop-number.invariant.0
+pub returns-in_default : goal.returns-in_default
+returns-in_default c = c.loop-number.invariant.0
 
 pub returns-else-comes_next : goal.returns-else-comes_next
 returns-else-comes_next c = c.loop-number.invariant.0
