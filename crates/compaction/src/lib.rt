@@ -5,9 +5,8 @@ mod ends;
 mod ids;
 mod new_list;
 
-ghost use Rattle.std.specs.Prelude.{◌≡◌, true, ◌-◌, ◌≤◌, length};
+ghost use Rattle.std.specs.Prelude.{◌-◌, ◌≤◌, length};
 ghost use Rattle.codec.specs.All.{All};
-ghost use Rattle.blocks.specs.Blocks.{block_allowed};
 ghost use Rattle.outcomes.specs.Answers.{Answers};
 ghost use Rattle.outcomes.specs.Outcome.{done, first_of, delivered};
 ghost use Rattle.plans.specs.Piece.{chunk_bytes};
@@ -21,6 +20,7 @@ ghost use Rattle.compaction.specs.Calls.{both, delivered_both, later_rows, compa
 use blocks::block_allowed;
 use outcomes::{Kind, Refusal};
 use plans::rooms;
+use plans::shifts::BlockSize;
 use slices::{MAX_INDEX, RECORD, check};
 
 // What was written: the numbers of bytes of the plan and of the new list.
@@ -35,14 +35,13 @@ fn planned(
     list: &[u8],
     from: u32,
     end: u32,
-    block: u32,
+    block: BlockSize,
     index: u32,
     plan: &mut [u8],
 ) -> Result<usize, Refusal>
     requires all { All Passes (records list.now) }
     requires list_bound { (count list.now ≤ max_records) × (from ≤ end) × (end ≤ chunk) }
-    requires block_value { block_allowed block ≡ true }
-    ensures { Answers (delivered (chunk_bytes index 0 (pieces block (records list.now) from (end - from))) (length plan.old)) plan.old result plan.new }
+    ensures { Answers (delivered (chunk_bytes index 0 (pieces block.bytes (records list.now) from (end - from))) (length plan.old)) plan.old result plan.new }
 {
     let n = list.len() / RECORD;
     if n <= 32 {
@@ -55,16 +54,15 @@ fn planned(
 fn compact_first(
     list: &[u8],
     index: u32,
-    block: u32,
+    block: BlockSize,
     k: usize,
     new_id: u64,
     plan: &mut [u8],
     new_list: &mut [u8],
 ) -> Result<Compacted, Refusal>
     requires accepts { Accepts list.now }
-    requires block_value { block_allowed block ≡ true }
     requires k_bound { k ≤ count list.now }
-    ensures { Compacts (delivered_both (both index block (records list.now) k new_id) (length plan.old) (length new_list.old)) plan.old new_list.old result plan.new new_list.new }
+    ensures { Compacts (delivered_both (both index block.bytes (records list.now) k new_id) (length plan.old) (length new_list.old)) plan.old new_list.old result plan.new new_list.new }
 {
     let cut = k * RECORD;
     let firsts = &list[..cut];
@@ -87,15 +85,14 @@ fn compact_first(
 fn compact_accepted(
     list: &[u8],
     index: u32,
-    block: u32,
+    block: BlockSize,
     k: u64,
     new_id: u64,
     plan: &mut [u8],
     new_list: &mut [u8],
 ) -> Result<Compacted, Refusal>
     requires accepts { Accepts list.now }
-    requires block_value { block_allowed block ≡ true }
-    ensures { Compacts (first_of (later_rows (records list.now) index block k new_id (length plan.old) (length new_list.old)) (done (both index block (records list.now) k new_id))) plan.old new_list.old result plan.new new_list.new }
+    ensures { Compacts (first_of (later_rows (records list.now) index block.bytes k new_id (length plan.old) (length new_list.old)) (done (both index block.bytes (records list.now) k new_id))) plan.old new_list.old result plan.new new_list.new }
 {
     if ((list.len() / RECORD) as u64) < k {
         return Err(Refusal::from(Kind::TooFew));
@@ -126,6 +123,6 @@ pub fn compact(
         return Err(Refusal::from(Kind::BlockSize));
     }
     check::check_list(list)?;
-    let block = block_size as u32;
+    let block = BlockSize::of(block_size as u32);
     compact_accepted(list, index as u32, block, k, new_id, plan, new_list)
 }

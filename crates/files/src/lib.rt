@@ -14,6 +14,7 @@ ghost use Rattle.files.specs.Calls.{wrong_chunks, file_outcome, AnswersFile};
 use blocks::block_allowed;
 use joined::ListRefusal;
 use outcomes::Kind;
+use plans::shifts::BlockSize;
 use slices::{CHUNK, MAX_INDEX};
 
 // The most lists that a read may span.
@@ -73,6 +74,6 @@ pub fn file_plan(
     let n = joined::check_lists(lists, lengths, first_index)?;
     let read = plans::cut(file_end(first_index, file_len, n), start, count);
     let first = first_index as u32;
-    let block = block_size as u32;
+    let block = BlockSize::of(block_size as u32);
     rooms::answer(lists, lengths, first, read.from, read.end, block, out)
 }

@@ -2,21 +2,19 @@
 ghost use Rattle.std.specs.Prelude.{◌≡◌, true, cond, ◌+◌, ◌-◌, ◌*◌, ◌/◌, ◌^◌, ◌<◌, ◌≤◌, length};
 ghost use Rattle.codec.specs.All.{All};
 ghost use Rattle.codec.specs.Splice.{splice};
-ghost use Rattle.blocks.specs.Blocks.{block_allowed};
 ghost use Rattle.slices.specs.Accepts.{Accepts};
 ghost use Rattle.slices.specs.Limits.{max_records, record_size};
 ghost use Rattle.joined.specs.Lists.{total, parts};
-ghost use Rattle.plans.specs.Inner.{Shifts};
 ghost use Rattle.plans.specs.Piece.{piece_size};
 ghost use Rattle.files.specs.Limits.{max_lists};
 ghost use Rattle.files.specs.Calls.{AnswersFile, delivered_file};
 ghost use Rattle.files.specs.Inner.{bytes_of};
 
 use crate::walk;
-use blocks::bits_of;
 use joined::ListRefusal;
 use outcomes::Kind;
 use plans::PIECE;
+use plans::shifts::BlockSize;
 use resolve::room::Room;
 use slices::RECORD;
 
@@ -36,18 +34,17 @@ fn sized<const N: usize, const MARKS: usize, const TOPS: usize>(
     first: u32,
     from: u32,
     end: u32,
-    block: u32,
-    bits: u32,
+    block: BlockSize,
     write: bool,
     out: &mut [u8],
 ) -> usize
     requires lengths_value { (total lengths.now ≡ length lists.now) × All Accepts (parts lengths.now lists.now) }
     requires lists_len_bound { N < max_records → length lists.now ≤ N * record_size }
-    requires lengths_len_bound { (length lengths.now ≤ max_lists) × (first + length lengths.now ≤ 2 ^ 32) × Shifts block bits }
-    requires lists_in_bounds { write ≡ true → length (bytes_of first block from end 0 (parts lengths.now lists.now)) ≤ length out.old }
+    requires lengths_len_bound { (length lengths.now ≤ max_lists) × (first + length lengths.now ≤ 2 ^ 32) }
+    requires lists_in_bounds { write ≡ true → length (bytes_of first block.bytes from end 0 (parts lengths.now lists.now)) ≤ length out.old }
     requires room { (0 < N) × (N ≤ max_records) × (MARKS ≡ N + N + 2) × (TOPS ≡ N + N + 1) }
-    ensures value { result ≡ length (bytes_of first block from end 0 (parts lengths.now lists.now)) }
-    ensures out_after { out.new ≡ cond write (splice out.old 0 (bytes_of first block from end 0 (parts lengths.now lists.now))) out.old }
+    ensures value { result ≡ length (bytes_of first block.bytes from end 0 (parts lengths.now lists.now)) }
+    ensures out_after { out.new ≡ cond write (splice out.old 0 (bytes_of first block.bytes from end 0 (parts lengths.now lists.now))) out.old }
 {
     let mut marks = [0u32; MARKS];
     let mut tops = [0u16; TOPS];
@@ -65,7 +62,7 @@ fn sized<const N: usize, const MARKS: usize, const TOPS: usize>(
         spare: &mut spare,
     };
     walk::walk_lists(
-        lists, lengths, first, from, end, block, bits, write, out, &mut room,
+        lists, lengths, first, from, end, block, write, out, &mut room,
     )
 }
 
@@ -76,21 +73,20 @@ fn in_room(
     first: u32,
     from: u32,
     end: u32,
-    block: u32,
-    bits: u32,
+    block: BlockSize,
     write: bool,
     out: &mut [u8],
 ) -> usize
     requires lengths_value { (total lengths.now ≡ length lists.now) × All Accepts (parts lengths.now lists.now) }
-    requires lengths_len_bound { (length lengths.now ≤ max_lists) × (first + length lengths.now ≤ 2 ^ 32) × Shifts block bits }
-    requires lists_in_bounds { write ≡ true → length (bytes_of first block from end 0 (parts lengths.now lists.now)) ≤ length out.old }
-    ensures value { result ≡ length (bytes_of first block from end 0 (parts lengths.now lists.now)) }
-    ensures out_after { out.new ≡ cond write (splice out.old 0 (bytes_of first block from end 0 (parts lengths.now lists.now))) out.old }
+    requires lengths_len_bound { (length lengths.now ≤ max_lists) × (first + length lengths.now ≤ 2 ^ 32) }
+    requires lists_in_bounds { write ≡ true → length (bytes_of first block.bytes from end 0 (parts lengths.now lists.now)) ≤ length out.old }
+    ensures value { result ≡ length (bytes_of first block.bytes from end 0 (parts lengths.now lists.now)) }
+    ensures out_after { out.new ≡ cond write (splice out.old 0 (bytes_of first block.bytes from end 0 (parts lengths.now lists.now))) out.old }
 {
     if lists.len() <= 256 * RECORD {
-        return sized::<256, 514, 513>(lists, lengths, first, from, end, block, bits, write, out);
+        return sized::<256, 514, 513>(lists, lengths, first, from, end, block, write, out);
     }
-    sized::<2048, 4098, 4097>(lists, lengths, first, from, end, block, bits, write, out)
+    sized::<2048, 4098, 4097>(lists, lengths, first, from, end, block, write, out)
 }
 
 // Answers with these pieces. They are counted first only where they may have no room.
@@ -100,21 +96,19 @@ pub(crate) fn answer(
     first: u32,
     from: u32,
     end: u32,
-    block: u32,
+    block: BlockSize,
     out: &mut [u8],
 ) -> Result<usize, ListRefusal>
     requires lengths_value { (total lengths.now ≡ length lists.now) × All Accepts (parts lengths.now lists.now) }
     requires lengths_len_bound { (length lengths.now ≤ max_lists) × (first + length lengths.now ≤ 2 ^ 32) × (from ≤ end) }
-    requires block_value { block_allowed block ≡ true }
-    ensures { AnswersFile (delivered_file (bytes_of first block from end 0 (parts lengths.now lists.now)) (length out.old)) out.old result out.new }
+    ensures { AnswersFile (delivered_file (bytes_of first block.bytes from end 0 (parts lengths.now lists.now)) (length out.old)) out.old result out.new }
 {
-    let bits = bits_of(block);
-    if roomy(lists.len(), lengths.len(), from, end, bits, out.len()) {
-        return Ok(in_room(lists, lengths, first, from, end, block, bits, true, out));
+    if roomy(lists.len(), lengths.len(), from, end, block.bits, out.len()) {
+        return Ok(in_room(lists, lengths, first, from, end, block, true, out));
     }
-    let need = in_room(lists, lengths, first, from, end, block, bits, false, out);
+    let need = in_room(lists, lengths, first, from, end, block, false, out);
     if out.len() < need {
         return Err(ListRefusal::from(Kind::ShortBuffer));
     }
-    Ok(in_room(lists, lengths, first, from, end, block, bits, true, out))
+    Ok(in_room(lists, lengths, first, from, end, block, true, out))
 }

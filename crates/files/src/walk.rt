@@ -1,17 +1,16 @@
 // The pieces of a plan, list by list: counted, and written.
-ghost use Rattle.std.specs.Prelude.{◌≡◌, true, cond, ◌+◌, ◌*◌, ◌^◌, ◌<◌, ◌≤◌, length};
+ghost use Rattle.std.specs.Prelude.{◌≡◌, true, cond, ◌+◌, ◌^◌, ◌<◌, ◌≤◌, length};
 ghost use Rattle.codec.specs.All.{All};
 ghost use Rattle.codec.specs.Splice.{splice};
-ghost use Rattle.slices.specs.Limits.{chunk};
 ghost use Rattle.slices.specs.Record.{records};
 ghost use Rattle.joined.specs.Lists.{total, parts};
-ghost use Rattle.plans.specs.Inner.{Shifts};
 ghost use Rattle.plans.specs.Piece.{encode_pieces};
 ghost use Rattle.files.specs.Limits.{max_lists};
 ghost use Rattle.files.specs.File.{chunk_plan};
 ghost use Rattle.files.specs.Inner.{Fits, bytes_of};
 
 use crate::parts;
+use plans::shifts::BlockSize;
 use plans::walk;
 use resolve::room::Room;
 
@@ -22,18 +21,17 @@ fn walk_list(
     k: u32,
     from: u32,
     end: u32,
-    block: u32,
-    bits: u32,
+    block: BlockSize,
     write: bool,
     out: &mut [u8],
     start: usize,
     room: &mut Room,
 ) -> usize
     requires resolvable { Fits room.old.records list.now }
-    requires k_lt_max_lists { (k < max_lists) × (first + k < 2 ^ 32) × (start ≤ 2 ^ 40) × Shifts block bits }
-    requires list_in_bounds { write ≡ true → start + length (encode_pieces (chunk_plan first block from end k (records list.now))) ≤ length out.old }
-    ensures value { result ≡ start + length (encode_pieces (chunk_plan first block from end k (records list.now))) }
-    ensures out_after { out.new ≡ cond write (splice out.old start (encode_pieces (chunk_plan first block from end k (records list.now)))) out.old }
+    requires k_lt_max_lists { (k < max_lists) × (first + k < 2 ^ 32) × (start ≤ 2 ^ 40) }
+    requires list_in_bounds { write ≡ true → start + length (encode_pieces (chunk_plan first block.bytes from end k (records list.now))) ≤ length out.old }
+    ensures value { result ≡ start + length (encode_pieces (chunk_plan first block.bytes from end k (records list.now))) }
+    ensures out_after { out.new ≡ cond write (splice out.old start (encode_pieces (chunk_plan first block.bytes from end k (records list.now)))) out.old }
     ensures room_after { room.new.records ≡ room.old.records }
 {
     let part = parts::part(from, end, k);
@@ -43,9 +41,7 @@ fn walk_list(
     let segments = room.resolve(list);
     let front = (first + k) as u64 * 4294967296 + parts::places_before(from, k) as u64;
     let r = room.resolved(list, segments);
-    walk::walk_pieces(
-        &r, part.from, part.end, block, bits, front, write, out, start,
-    )
+    walk::walk_pieces(&r, part.from, part.end, block, front, write, out, start)
 }
 
 // The same for all lists, to the front of the buffer; how many bytes the pieces have.
@@ -55,17 +51,16 @@ pub(crate) fn walk_lists(
     first: u32,
     from: u32,
     end: u32,
-    block: u32,
-    bits: u32,
+    block: BlockSize,
     write: bool,
     out: &mut [u8],
     room: &mut Room,
 ) -> usize
     requires lengths_value { (total lengths.now ≡ length lists.now) × All (Fits room.old.records) (parts lengths.now lists.now) }
-    requires lengths_len_bound { (length lengths.now ≤ max_lists) × (first + length lengths.now ≤ 2 ^ 32) × Shifts block bits }
-    requires lists_in_bounds { write ≡ true → length (bytes_of first block from end 0 (parts lengths.now lists.now)) ≤ length out.old }
-    ensures value { result ≡ length (bytes_of first block from end 0 (parts lengths.now lists.now)) }
-    ensures out_after { out.new ≡ cond write (splice out.old 0 (bytes_of first block from end 0 (parts lengths.now lists.now))) out.old }
+    requires lengths_len_bound { (length lengths.now ≤ max_lists) × (first + length lengths.now ≤ 2 ^ 32) }
+    requires lists_in_bounds { write ≡ true → length (bytes_of first block.bytes from end 0 (parts lengths.now lists.now)) ≤ length out.old }
+    ensures value { result ≡ length (bytes_of first block.bytes from end 0 (parts lengths.now lists.now)) }
+    ensures out_after { out.new ≡ cond write (splice out.old 0 (bytes_of first block.bytes from end 0 (parts lengths.now lists.now))) out.old }
 {
     let mut at = 0;
     let mut to = 0;
@@ -78,7 +73,6 @@ pub(crate) fn walk_lists(
             from,
             end,
             block,
-            bits,
             write,
             out,
             to,

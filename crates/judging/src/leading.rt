@@ -1,17 +1,16 @@
 // The pieces at the front of a plan that stand in order and lie where they say: of most plans that is all of them.
-ghost use Rattle.std.specs.Prelude.{◌≡◌, true, false, ◌+◌, ◌*◌, ◌/◌, ◌^◌, ◌<◌, ◌≤◌, length};
+ghost use Rattle.std.specs.Prelude.{◌≡◌, true, ◌+◌, ◌/◌, ◌^◌, ◌≤◌, length};
 ghost use Rattle.slices.specs.Record.{records};
 ghost use Rattle.coverage.specs.Inner.{InOrder};
-ghost use Rattle.plans.specs.Inner.{Shifts};
 ghost use Rattle.plans.specs.Piece.{piece_size};
 ghost use Rattle.codec.specs.All.{All};
 ghost use Rattle.joined.specs.Lists.{total, parts};
-ghost use Rattle.plans.specs.declared.Piece.{Piece};
 ghost use Rattle.files.specs.Inner.{Fits};
 ghost use Rattle.files.specs.Limits.{max_lists};
 ghost use Rattle.judging.specs.Inner.{formed, chunk_of, Led, Leads};
 
 use crate::{pieces, places};
+use plans::shifts::BlockSize;
 use plans::{PIECE, Piece};
 use resolve::room::Room;
 use resolve::segments::Resolved;
@@ -54,14 +53,13 @@ fn lead_on(
     first: u32,
     from: u32,
     n: u32,
-    block: u32,
-    bits: u32,
+    block: BlockSize,
     plan: &[u8],
     start: Lead,
 ) -> Lead
-    requires n_bound { (from + n ≤ 2 ^ 30) × Shifts block bits }
+    requires n_bound { (from + n ≤ 2 ^ 30) }
     requires number_in_bounds { (start.number ≤ length plan.now / piece_size) × (start.place ≤ n) × InOrder plan.now start.number start.place }
-    ensures { Leads first from n block k (records r.now.list.now) plan.now start.number result.number result.place }
+    ensures { Leads first from n block.bytes k (records r.now.list.now) plan.now start.number result.number result.place }
 {
     let whole = plan.len() / PIECE;
     let mut number = start.number;
@@ -71,9 +69,8 @@ fn lead_on(
         let p = pieces::read_piece(plan, number * PIECE);
         if comes_next(p, place, k, first, from, n) {
             let q = (from + place) % CHUNK;
-            let met = places::meet(r, near, q, q + p.len, block, bits, p);
-            near = met.segment;
-            if met.same {
+            if let Some(segment) = places::meet(r, near, q, q + p.len, block, p) {
+                near = segment;
                 number += 1;
                 place += p.len;
             } else {
@@ -93,22 +90,21 @@ fn lead_list(
     first: u32,
     from: u32,
     n: u32,
-    block: u32,
-    bits: u32,
+    block: BlockSize,
     plan: &[u8],
     start: Lead,
     room: &mut Room,
 ) -> Lead
     requires resolvable { Fits room.old.records list.now }
-    requires n_bound { (from + n ≤ 2 ^ 30) × Shifts block bits }
+    requires n_bound { (from + n ≤ 2 ^ 30) }
     requires number_in_bounds { (start.number ≤ length plan.now / piece_size) × (start.place ≤ n) × InOrder plan.now start.number start.place }
-    ensures leads { Leads first from n block k (records list.now) plan.now start.number result.number result.place }
+    ensures leads { Leads first from n block.bytes k (records list.now) plan.now start.number result.number result.place }
     ensures room_after { room.new.records ≡ room.old.records }
 {
     if is_next(plan, start.number, start.place, k, first, from, n) {
         let segments = room.resolve(list);
         let r = room.resolved(list, segments);
-        return lead_on(&r, k, first, from, n, block, bits, plan, start);
+        return lead_on(&r, k, first, from, n, block, plan, start);
     }
     start
 }
@@ -120,14 +116,13 @@ pub(crate) fn lead_all(
     first: u32,
     from: u32,
     n: u32,
-    block: u32,
-    bits: u32,
+    block: BlockSize,
     plan: &[u8],
     room: &mut Room,
 ) -> Lead
     requires lengths_value { (total lengths.now ≡ length lists.now) × All (Fits room.old.records) (parts lengths.now lists.now) }
-    requires lengths_len_bound { (length lengths.now ≤ max_lists) × (from + n ≤ 2 ^ 30) × Shifts block bits }
-    ensures { Led first from n block (parts lengths.now lists.now) plan.now result.number result.place }
+    requires lengths_len_bound { (length lengths.now ≤ max_lists) × (from + n ≤ 2 ^ 30) }
+    ensures { Led first from n block.bytes (parts lengths.now lists.now) plan.now result.number result.place }
 {
     let mut led = Lead {
         number: 0,
@@ -143,7 +138,6 @@ pub(crate) fn lead_all(
             from,
             n,
             block,
-            bits,
             plan,
             led,
             room,

@@ -14,6 +14,7 @@ ghost use Rattle.judging.specs.Calls.{judge_outcome, judge_answer};
 use blocks::block_allowed;
 use joined::ListRefusal;
 use outcomes::Kind;
+use plans::shifts::BlockSize;
 
 // What is said of a plan: it is accepted; a piece, by its number from 0, is wrong in itself; a byte, by its place in the read, is missing or doubled.
 #[derive(Clone, Copy)]
@@ -50,6 +51,6 @@ pub fn judge(
     }
     let bytes = read.end - read.from;
     let first = first_index as u32;
-    let block = block_size as u32;
+    let block = BlockSize::of(block_size as u32);
     Ok(verdicts::of_read(lists, lengths, first, read.from, bytes, block, plan))
 }

@@ -1,27 +1,20 @@
 // Whether the bytes of a piece lie where it says, in a resolved list.
-ghost use Rattle.std.specs.Prelude.{◌≡◌, true, false, ◌+◌, ◌-◌, ◌<◌, ◌≤◌, length, get_or};
+ghost use Rattle.std.specs.Prelude.{◌≡◌, ◌+◌, ◌-◌, ◌<◌, ◌≤◌, length, get_or, MatchOption};
 ghost use Rattle.codec.specs.All.{All};
 ghost use Rattle.slices.specs.Limits.{chunk};
 ghost use Rattle.slices.specs.Passes.{Passes};
 ghost use Rattle.slices.specs.Record.{records};
 ghost use Rattle.resolve.specs.Resolved.{OnTop, Holds};
-ghost use Rattle.plans.specs.Inner.{Shifts};
 ghost use Rattle.plans.specs.Location.{location_at, onward};
 ghost use Rattle.plans.specs.Piece.{location_of};
 ghost use Rattle.plans.specs.declared.Location.TheVariants as locations;
 ghost use Rattle.judging.specs.Judge.{same_location};
 ghost use Rattle.judging.specs.Inner.{LiesAt, StraysAt};
 
+use plans::shifts::BlockSize;
 use plans::{Location, Piece, ZEROS, locations, reach};
 use resolve::segments::Resolved;
 use resolve::tops;
-
-// Whether a piece's bytes lie where it says, and a segment from which to look for the next piece.
-#[derive(Clone, Copy)]
-pub(crate) struct Met {
-    pub(crate) same: bool,
-    pub(crate) segment: usize,
-}
 
 // Whether byte d of a piece lies in this object, at t.
 fn in_object(p: Piece, d: u32, i: u64, b: u32, l: u32, t: u32) -> bool
@@ -80,37 +73,29 @@ fn following(marks: &[u32], k: usize, e: u32) -> usize
     k + 1
 }
 
-// Whether the positions from q up to `end` lie where a piece says, from its first byte on.
+// The segment from which to look for the next piece, if the positions from q up to `end` lie where a piece says, from its first byte on.
 pub(crate) fn meet(
     r: &Resolved,
     near: usize,
     q: u32,
     end: u32,
-    block: u32,
-    bits: u32,
+    block: BlockSize,
     p: Piece,
-) -> Met
-    requires q_lt_end { (q < end) × (end ≤ chunk) × (near < r.now.segments) × Shifts block bits }
-    ensures lies_at { (result.same ≡ true → LiesAt block (records r.now.list.now) q (end - q) (location_of p)) × (result.same ≡ false → StraysAt block (records r.now.list.now) q (end - q) (location_of p)) }
-    ensures segment_lt_m { result.segment < r.now.segments }
+) -> Option<usize>
+    requires q_lt_end { (q < end) × (end ≤ chunk) × (near < r.now.segments) }
+    ensures { MatchOption result (StraysAt block.bytes (records r.now.list.now) q (end - q) (location_of p)) (λ segment. LiesAt block.bytes (records r.now.list.now) q (end - q) (location_of p) × (segment < r.now.segments)) }
 {
     let mut segment = seek(r, near, q);
     let mut at = q;
     loop {
-        if same_at(r.list, r.tops[segment], at, block, p, at - q) {
-            at = reach::same_block_to(r, segment, at, end, block, bits);
+        if same_at(r.list, r.tops[segment], at, block.bytes, p, at - q) {
+            at = reach::same_block_to(r, segment, at, end, block);
             if end <= at {
-                return Met {
-                    same: true,
-                    segment,
-                };
+                return Some(segment);
             }
             segment = following(r.marks, segment, at);
         } else {
-            return Met {
-                same: false,
-                segment,
-            };
+            return None;
         }
     }
 }

@@ -4,7 +4,6 @@ ghost use Rattle.codec.specs.All.{All};
 ghost use Rattle.slices.specs.Accepts.{Accepts};
 ghost use Rattle.slices.specs.Limits.{chunk, max_records, record_size};
 ghost use Rattle.joined.specs.Lists.{total, parts};
-ghost use Rattle.plans.specs.Inner.{Shifts};
 ghost use Rattle.files.specs.Inner.{Fits};
 ghost use Rattle.files.specs.Limits.{max_lists};
 ghost use Rattle.judging.specs.Inner.{Worked};
@@ -12,6 +11,7 @@ ghost use Rattle.judging.specs.Inner.{Worked};
 use crate::leading::Lead;
 use crate::{leading, sifting};
 use plans::PIECE;
+use plans::shifts::BlockSize;
 use resolve::room::Room;
 use slices::RECORD;
 
@@ -23,23 +23,20 @@ fn work(
     first: u32,
     from: u32,
     n: u32,
-    block: u32,
-    bits: u32,
+    block: BlockSize,
     plan: &[u8],
     lead: bool,
     room: &mut Room,
 ) -> Lead
     requires lengths_value { (total lengths.now ≡ length lists.now) × All (Fits room.old.records) (parts lengths.now lists.now) }
-    requires lengths_len_bound { (length lengths.now ≤ max_lists) × (from + n ≤ length lengths.now * chunk) × Shifts block bits }
-    ensures { Worked lead first from n block (parts lengths.now lists.now) plan.now result.number result.place }
+    requires lengths_len_bound { (length lengths.now ≤ max_lists) × (from + n ≤ length lengths.now * chunk) }
+    ensures { Worked lead first from n block.bytes (parts lengths.now lists.now) plan.now result.number result.place }
 {
     if lead {
-        return leading::lead_all(lists, lengths, first, from, n, block, bits, plan, room);
+        return leading::lead_all(lists, lengths, first, from, n, block, plan, room);
     }
     let limit = sifting::first_misformed(plan, first, from, n);
-    let number = sifting::sift_all(
-        lists, lengths, first, from, n, block, bits, plan, limit, room,
-    );
+    let number = sifting::sift_all(lists, lengths, first, from, n, block, plan, limit, room);
     if number * PIECE < plan.len() {
         return Lead { number, place: 0 };
     }
@@ -56,17 +53,16 @@ fn sized<const N: usize, const WINDOW: usize, const MARKS: usize, const TOPS: us
     first: u32,
     from: u32,
     n: u32,
-    block: u32,
-    bits: u32,
+    block: BlockSize,
     plan: &[u8],
     lead: bool,
 ) -> Lead
     requires lengths_value { (total lengths.now ≡ length lists.now) × All Accepts (parts lengths.now lists.now) }
-    requires lengths_len_bound { (length lengths.now ≤ max_lists) × (from + n ≤ length lengths.now * chunk) × Shifts block bits }
+    requires lengths_len_bound { (length lengths.now ≤ max_lists) × (from + n ≤ length lengths.now * chunk) }
     requires lists_len_bound { N < max_records → length lists.now ≤ N * record_size }
     requires room { (N ≤ max_records) × (MARKS ≡ N + N + 2) × (TOPS ≡ N + N + 1) }
     requires window { (N ≤ WINDOW) × (0 < WINDOW) × (WINDOW < 2 ^ 16) }
-    ensures { Worked lead first from n block (parts lengths.now lists.now) plan.now result.number result.place }
+    ensures { Worked lead first from n block.bytes (parts lengths.now lists.now) plan.now result.number result.place }
 {
     let mut marks = [0u32; MARKS];
     let mut tops = [0u16; TOPS];
@@ -83,9 +79,7 @@ fn sized<const N: usize, const WINDOW: usize, const MARKS: usize, const TOPS: us
         order: &mut order,
         spare: &mut spare,
     };
-    work(
-        lists, lengths, first, from, n, block, bits, plan, lead, &mut room,
-    )
+    work(lists, lengths, first, from, n, block, plan, lead, &mut room)
 }
 
 // Whether so many bytes of lists and of a plan are at most 256 records and pieces.
@@ -105,18 +99,17 @@ pub(crate) fn in_room(
     first: u32,
     from: u32,
     n: u32,
-    block: u32,
-    bits: u32,
+    block: BlockSize,
     plan: &[u8],
     lead: bool,
 ) -> Lead
     requires lengths_value { (total lengths.now ≡ length lists.now) × All Accepts (parts lengths.now lists.now) }
-    requires lengths_len_bound { (length lengths.now ≤ max_lists) × (from + n ≤ length lengths.now * chunk) × Shifts block bits }
-    ensures { Worked lead first from n block (parts lengths.now lists.now) plan.now result.number result.place }
+    requires lengths_len_bound { (length lengths.now ≤ max_lists) × (from + n ≤ length lengths.now * chunk) }
+    ensures { Worked lead first from n block.bytes (parts lengths.now lists.now) plan.now result.number result.place }
 {
     if is_small(lists.len(), plan.len()) {
-        return sized::<256, 256, 514, 513>(lists, lengths, first, from, n, block, bits, plan, lead);
+        return sized::<256, 256, 514, 513>(lists, lengths, first, from, n, block, plan, lead);
     }
     // 4,096 pieces at a time are as much as the stack allows.
-    sized::<2048, 4096, 4098, 4097>(lists, lengths, first, from, n, block, bits, plan, lead)
+    sized::<2048, 4096, 4098, 4097>(lists, lengths, first, from, n, block, plan, lead)
 }

@@ -1,7 +1,6 @@
 // The first piece of a plan that is wrong in itself, in whatever order the pieces stand: list by list, so that each is resolved once.
-ghost use Rattle.std.specs.Prelude.{◌≡◌, false, ◌+◌, ◌*◌, ◌/◌, ◌^◌, ◌<◌, ◌≤◌, length};
+ghost use Rattle.std.specs.Prelude.{◌≡◌, false, ◌+◌, ◌/◌, ◌^◌, ◌<◌, ◌≤◌, length};
 ghost use Rattle.slices.specs.Record.{records};
-ghost use Rattle.plans.specs.Inner.{Shifts};
 ghost use Rattle.plans.specs.Piece.{piece_size};
 ghost use Rattle.codec.specs.All.{All};
 ghost use Rattle.joined.specs.Lists.{total, parts};
@@ -12,6 +11,7 @@ ghost use Rattle.judging.specs.Inner.{piece_at, formed, Formed, Sifts, Sifted};
 use crate::{pieces, places};
 use files::parts;
 use plans::PIECE;
+use plans::shifts::BlockSize;
 use resolve::room::Room;
 use resolve::segments::Resolved;
 use slices::CHUNK;
@@ -39,14 +39,13 @@ fn sift_on(
     first: u32,
     from: u32,
     n: u32,
-    block: u32,
-    bits: u32,
+    block: BlockSize,
     plan: &[u8],
     limit: usize,
 ) -> usize
-    requires n_bound { (from + n ≤ 2 ^ 30) × Shifts block bits }
+    requires n_bound { (from + n ≤ 2 ^ 30) }
     requires limit_in_bounds { (limit ≤ length plan.now / piece_size) × Formed first from n plan.now limit }
-    ensures { Sifts from block k (records r.now.list.now) plan.now limit result }
+    ensures { Sifts from block.bytes k (records r.now.list.now) plan.now limit result }
 {
     let mut near = 0;
     for i in 0..limit {
@@ -54,9 +53,9 @@ fn sift_on(
         let at = from + p.place;
         if at / CHUNK == k {
             let q = at % CHUNK;
-            let met = places::meet(r, near, q, q + p.len, block, bits, p);
-            near = met.segment;
-            if !met.same {
+            if let Some(segment) = places::meet(r, near, q, q + p.len, block, p) {
+                near = segment;
+            } else {
                 return i;
             }
         }
@@ -71,16 +70,15 @@ fn sift_list(
     first: u32,
     from: u32,
     n: u32,
-    block: u32,
-    bits: u32,
+    block: BlockSize,
     plan: &[u8],
     limit: usize,
     room: &mut Room,
 ) -> usize
     requires resolvable { Fits room.old.records list.now }
-    requires k_lt_max_lists { (k < max_lists) × (from + n ≤ 2 ^ 30) × Shifts block bits }
+    requires k_lt_max_lists { (k < max_lists) × (from + n ≤ 2 ^ 30) }
     requires limit_in_bounds { (limit ≤ length plan.now / piece_size) × Formed first from n plan.now limit }
-    ensures sifts { Sifts from block k (records list.now) plan.now limit result }
+    ensures sifts { Sifts from block.bytes k (records list.now) plan.now limit result }
     ensures room_after { room.new.records ≡ room.old.records }
 {
     let part = parts::part(from, from + n, k);
@@ -89,7 +87,7 @@ fn sift_list(
     }
     let segments = room.resolve(list);
     let r = room.resolved(list, segments);
-    sift_on(&r, k, first, from, n, block, bits, plan, limit)
+    sift_on(&r, k, first, from, n, block, plan, limit)
 }
 
 // The same over all lists.
@@ -99,16 +97,15 @@ pub(crate) fn sift_all(
     first: u32,
     from: u32,
     n: u32,
-    block: u32,
-    bits: u32,
+    block: BlockSize,
     plan: &[u8],
     limit: usize,
     room: &mut Room,
 ) -> usize
     requires lengths_value { (total lengths.now ≡ length lists.now) × All (Fits room.old.records) (parts lengths.now lists.now) }
-    requires lengths_len_bound { (length lengths.now ≤ max_lists) × (from + n ≤ 2 ^ 30) × Shifts block bits }
+    requires lengths_len_bound { (length lengths.now ≤ max_lists) × (from + n ≤ 2 ^ 30) }
     requires limit_in_bounds { (limit ≤ length plan.now / piece_size) × Formed first from n plan.now limit }
-    ensures { Sifted first from n block (parts lengths.now lists.now) plan.now limit result }
+    ensures { Sifted first from n block.bytes (parts lengths.now lists.now) plan.now limit result }
 {
     let mut left = limit;
     let mut at = 0;
@@ -121,7 +118,6 @@ pub(crate) fn sift_all(
             from,
             n,
             block,
-            bits,
             plan,
             left,
             room,

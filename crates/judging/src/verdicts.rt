@@ -1,7 +1,6 @@
 // What is said of a plan, of lists that are accepted.
-ghost use Rattle.std.specs.Prelude.{◌≡◌, true, map, ℕ, ◌+◌, ◌*◌, ◌/◌, ◌<◌, ◌≤◌, length};
+ghost use Rattle.std.specs.Prelude.{◌≡◌, map, ℕ, ◌+◌, ◌*◌, ◌≤◌, length};
 ghost use Rattle.codec.specs.All.{All};
-ghost use Rattle.blocks.specs.Blocks.{block_allowed};
 ghost use Rattle.slices.specs.Accepts.{Accepts};
 ghost use Rattle.slices.specs.Limits.{chunk};
 ghost use Rattle.slices.specs.Record.{records};
@@ -14,8 +13,8 @@ ghost use Rattle.judging.specs.Judge.{verdict};
 ghost use Rattle.judging.specs.Inner.{said_of};
 
 use crate::{Judged, rooms};
-use blocks::bits_of;
 use plans::PIECE;
+use plans::shifts::BlockSize;
 
 // What is said of the first place that is not held once, n where there is none.
 fn of_place(at: u32, n: u32) -> Judged
@@ -44,19 +43,18 @@ pub(crate) fn of_read(
     first: u32,
     from: u32,
     n: u32,
-    block: u32,
+    block: BlockSize,
     plan: &[u8],
 ) -> Judged
     requires lengths_value { (total lengths.now ≡ length lists.now) × All Accepts (parts lengths.now lists.now) }
-    requires lengths_len_bound { (length lengths.now ≤ max_lists) × (from + n ≤ length lengths.now * chunk) × (block_allowed block ≡ true) }
-    ensures { result ≡ said (verdict (site_from first block (map records (parts lengths.now lists.now)) from) n plan.now) }
+    requires lengths_len_bound { (length lengths.now ≤ max_lists) × (from + n ≤ length lengths.now * chunk) }
+    ensures { result ≡ said (verdict (site_from first block.bytes (map records (parts lengths.now lists.now)) from) n plan.now) }
 {
-    let bits = bits_of(block);
-    let lead = rooms::in_room(lists, lengths, first, from, n, block, bits, plan, true);
+    let lead = rooms::in_room(lists, lengths, first, from, n, block, plan, true);
     if lead.number * PIECE == plan.len() {
         return of_place(lead.place, n);
     }
-    let found = rooms::in_room(lists, lengths, first, from, n, block, bits, plan, false);
+    let found = rooms::in_room(lists, lengths, first, from, n, block, plan, false);
     if found.number * PIECE < plan.len() {
         return Judged::WrongPiece(found.number);
     }

@@ -8,11 +8,12 @@ ghost use Rattle.slices.specs.Limits.{record_size};
 ghost use Rattle.slices.specs.Passes.{Passes};
 ghost use Rattle.slices.specs.Record.{record_at, records};
 ghost use Rattle.resolve.specs.Resolved.{OnTop};
-ghost use Rattle.plans.specs.Inner.{Shifts, object_bytes};
+ghost use Rattle.plans.specs.Inner.{object_bytes};
 ghost use Rattle.plans.specs.Location.{location, location_at};
 ghost use Rattle.plans.specs.Piece.{piece_size, piece_of, encode_piece};
 ghost use Rattle.plans.specs.declared.Location.TheVariants.{Hole};
 
+use crate::shifts::BlockSize;
 use crate::{OBJECT, ZEROS, objects};
 use codec::fixed;
 use resolve::tops;
@@ -48,16 +49,16 @@ fn put_nothing(out: &mut [u8], to: usize)
 }
 
 // Puts the numbers of the object in which position p lies, which record i gives.
-fn put_object(list: &[u8], i: usize, p: u32, block: u32, bits: u32, out: &mut [u8], to: usize)
-    requires record_size_in_bounds { (i * record_size + record_size ≤ length list.now) × (to + 20 ≤ length out.old) × Shifts block bits }
+fn put_object(list: &[u8], i: usize, p: u32, block: BlockSize, out: &mut [u8], to: usize)
+    requires record_size_in_bounds { (i * record_size + record_size ≤ length list.now) × (to + 20 ≤ length out.old) }
     requires passes { Passes (record_at list.now i) × ((record_at list.now i).id ≢ 0) }
     requires i_bound { ((record_at list.now i).pos ≤ p) × (p < (record_at list.now i).pos + (record_at list.now i).len) }
-    ensures { out.new ≡ splice out.old to (object_bytes (location block (given (record_at list.now i) p))) }
+    ensures { out.new ≡ splice out.old to (object_bytes (location block.bytes (given (record_at list.now i) p))) }
 {
     fixed::write_be64(out, to, records::read_id(list, i));
-    fixed::write_be32(out, to + 8, objects::number_at(list, i, p, bits));
-    fixed::write_be32(out, to + 12, objects::length_at(list, i, p, block, bits));
-    fixed::write_be32(out, to + 16, objects::place_at(list, i, p, block, bits));
+    fixed::write_be32(out, to + 8, objects::number_at(list, i, p, block.bits));
+    fixed::write_be32(out, to + 12, objects::length_at(list, i, p, block));
+    fixed::write_be32(out, to + 16, objects::place_at(list, i, p, block));
 }
 
 // Puts the piece of len positions from p on, where the record `top`, counted from 1, lies on top of p. The halves of `front` are the chunk index and
@@ -68,15 +69,14 @@ fn put_piece(
     p: u32,
     front: u64,
     len: u32,
-    block: u32,
-    bits: u32,
+    block: BlockSize,
     out: &mut [u8],
     to: usize,
 )
-    requires all { All Passes (records list.now) × Shifts block bits }
+    requires all { All Passes (records list.now) }
     requires on_top { OnTop list.now top p (p + 1) }
     requires piece_size_in_bounds { to + piece_size ≤ length out.old }
-    ensures { out.new ≡ splice out.old to (encode_piece (piece_of (front / 2 ^ 32) (front % 2 ^ 32) len (location_at block (records list.now) p))) }
+    ensures { out.new ≡ splice out.old to (encode_piece (piece_of (front / 2 ^ 32) (front % 2 ^ 32) len (location_at block.bytes (records list.now) p))) }
 {
     fixed::write_be32(out, to + 30, len);
     if tops::id_on(list, top) == 0 {
@@ -85,7 +85,7 @@ fn put_piece(
         return;
     }
     put_front(OBJECT, front, out, to);
-    put_object(list, tops::wide(top) - 1, p, block, bits, out, to + 10);
+    put_object(list, tops::wide(top) - 1, p, block, out, to + 10);
 }
 
 // The same where it is to be written; else the buffer stays.
@@ -96,17 +96,16 @@ pub(crate) fn put_if(
     p: u32,
     front: u64,
     len: u32,
-    block: u32,
-    bits: u32,
+    block: BlockSize,
     out: &mut [u8],
     to: usize,
 )
-    requires all { All Passes (records list.now) × Shifts block bits }
+    requires all { All Passes (records list.now) }
     requires on_top { OnTop list.now top p (p + 1) }
     requires piece_size_in_bounds { write ≡ true → to + piece_size ≤ length out.old }
-    ensures { out.new ≡ cond write (splice out.old to (encode_piece (piece_of (front / 2 ^ 32) (front % 2 ^ 32) len (location_at block (records list.now) p)))) out.old }
+    ensures { out.new ≡ cond write (splice out.old to (encode_piece (piece_of (front / 2 ^ 32) (front % 2 ^ 32) len (location_at block.bytes (records list.now) p)))) out.old }
 {
     if write {
-        put_piece(list, top, p, front, len, block, bits, out, to);
+        put_piece(list, top, p, front, len, block, out, to);
     }
 }

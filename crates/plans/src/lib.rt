@@ -6,7 +6,7 @@ pub mod locations;
 mod objects;
 pub mod reach;
 pub mod rooms;
-mod shifts;
+pub mod shifts;
 pub mod walk;
 
 ghost use Rattle.std.specs.Prelude.{◌^◌, ◌<◌, length};
@@ -16,6 +16,7 @@ ghost use Rattle.plans.specs.Inner.{Cut};
 
 use blocks::block_allowed;
 use outcomes::{Kind, Refusal};
+use shifts::BlockSize;
 use slices::{CHUNK, MAX_INDEX, check};
 
 // The bytes of a piece.
@@ -102,7 +103,7 @@ pub fn read_plan(
     }
     let n = check::check_list(list)?;
     let read = cut(chunk_len, start, count);
-    let block = block_size as u32;
+    let block = BlockSize::of(block_size as u32);
     if n <= 32 {
         return rooms::sized::<32, 66, 65>(list, read.from, read.end, block, index as u32, out);
     }

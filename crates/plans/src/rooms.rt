@@ -1,7 +1,6 @@
 // Room to resolve a list in: few records take little of it.
-ghost use Rattle.std.specs.Prelude.{◌≡◌, true, ◌+◌, ◌-◌, ◌≤◌, length};
+ghost use Rattle.std.specs.Prelude.{◌≡◌, ◌+◌, ◌-◌, ◌≤◌, length};
 ghost use Rattle.codec.specs.All.{All};
-ghost use Rattle.blocks.specs.Blocks.{block_allowed};
 ghost use Rattle.outcomes.specs.Answers.{Answers};
 ghost use Rattle.outcomes.specs.Outcome.{delivered};
 ghost use Rattle.slices.specs.Limits.{chunk, max_records};
@@ -10,8 +9,8 @@ ghost use Rattle.slices.specs.Record.{records, count};
 ghost use Rattle.plans.specs.Piece.{chunk_bytes};
 ghost use Rattle.plans.specs.Plan.{pieces};
 
+use crate::shifts::BlockSize;
 use crate::walk;
-use blocks::bits_of;
 use outcomes::Refusal;
 use resolve::segments::Resolved;
 use slices::RECORD;
@@ -21,15 +20,14 @@ pub fn sized<const N: usize, const MARKS: usize, const TOPS: usize>(
     list: &[u8],
     from: u32,
     end: u32,
-    block: u32,
+    block: BlockSize,
     index: u32,
     out: &mut [u8],
 ) -> Result<usize, Refusal>
     requires all { All Passes (records list.now) }
     requires list_bound { (count list.now ≤ N) × (from ≤ end) × (end ≤ chunk) }
-    requires block_value { block_allowed block ≡ true }
     requires room { (N ≤ max_records) × (MARKS ≡ N + N + 2) × (TOPS ≡ N + N + 1) }
-    ensures { Answers (delivered (chunk_bytes index 0 (pieces block (records list.now) from (end - from))) (length out.old)) out.old result out.new }
+    ensures { Answers (delivered (chunk_bytes index 0 (pieces block.bytes (records list.now) from (end - from))) (length out.old)) out.old result out.new }
 {
     if end <= from {
         return Ok(0);
@@ -49,7 +47,7 @@ pub fn sized<const N: usize, const MARKS: usize, const TOPS: usize>(
         tops: &tops,
         segments,
     };
-    walk::answer(&r, from, end, block, bits_of(block), index, out)
+    walk::answer(&r, from, end, block, index, out)
 }
 
 // For more than 32 records, or as many as you like.
@@ -57,14 +55,13 @@ pub fn many(
     list: &[u8],
     from: u32,
     end: u32,
-    block: u32,
+    block: BlockSize,
     index: u32,
     out: &mut [u8],
 ) -> Result<usize, Refusal>
     requires all { All Passes (records list.now) }
     requires list_bound { (count list.now ≤ max_records) × (from ≤ end) × (end ≤ chunk) }
-    requires block_value { block_allowed block ≡ true }
-    ensures { Answers (delivered (chunk_bytes index 0 (pieces block (records list.now) from (end - from))) (length out.old)) out.old result out.new }
+    ensures { Answers (delivered (chunk_bytes index 0 (pieces block.bytes (records list.now) from (end - from))) (length out.old)) out.old result out.new }
 {
     let n = list.len() / RECORD;
     if n <= 256 {

@@ -5,10 +5,11 @@ ghost use Rattle.outcomes.specs.Answers.{Answers};
 ghost use Rattle.outcomes.specs.Outcome.{delivered};
 ghost use Rattle.slices.specs.Limits.{chunk};
 ghost use Rattle.slices.specs.Record.{records};
-ghost use Rattle.plans.specs.Inner.{Shifts, front_bytes};
+ghost use Rattle.plans.specs.Inner.{front_bytes};
 ghost use Rattle.plans.specs.Piece.{piece_size, chunk_bytes};
 ghost use Rattle.plans.specs.Plan.{pieces};
 
+use crate::shifts::BlockSize;
 use crate::{PIECE, bytes, reach, shifts};
 use outcomes::{Kind, Refusal};
 use resolve::segments::Resolved;
@@ -19,25 +20,24 @@ pub fn walk_pieces(
     r: &Resolved,
     from: u32,
     end: u32,
-    block: u32,
-    bits: u32,
+    block: BlockSize,
     front: u64,
     write: bool,
     out: &mut [u8],
     start: usize,
 ) -> usize
-    requires from_lt_end { (from < end) × (end ≤ chunk) × Shifts block bits }
+    requires from_lt_end { (from < end) × (end ≤ chunk) }
     requires from_bound { (front % 2 ^ 32 + (end - from) ≤ 2 ^ 32) × (start ≤ 2 ^ 40) }
-    requires from_in_bounds { write ≡ true → start + length (front_bytes front (pieces block (records r.now.list.now) from (end - from))) ≤ length out.old }
-    ensures value { result ≡ start + length (front_bytes front (pieces block (records r.now.list.now) from (end - from))) }
-    ensures out_after { out.new ≡ cond write (splice out.old start (front_bytes front (pieces block (records r.now.list.now) from (end - from)))) out.old }
+    requires from_in_bounds { write ≡ true → start + length (front_bytes front (pieces block.bytes (records r.now.list.now) from (end - from))) ≤ length out.old }
+    ensures value { result ≡ start + length (front_bytes front (pieces block.bytes (records r.now.list.now) from (end - from))) }
+    ensures out_after { out.new ≡ cond write (splice out.old start (front_bytes front (pieces block.bytes (records r.now.list.now) from (end - from)))) out.old }
 {
     let mut p = from;
     let mut k = r.find(from);
     let mut to = start;
     while p < end {
         let top = r.tops[k];
-        let run = reach::reach(r, k, p, end, block, bits);
+        let run = reach::reach(r, k, p, end, block);
         let at = p;
         p = run.end;
         k = run.segment;
@@ -49,7 +49,6 @@ pub fn walk_pieces(
             front + (at - from) as u64,
             p - at,
             block,
-            bits,
             out,
             to,
         );
@@ -71,21 +70,20 @@ pub(crate) fn answer(
     r: &Resolved,
     from: u32,
     end: u32,
-    block: u32,
-    bits: u32,
+    block: BlockSize,
     index: u32,
     out: &mut [u8],
 ) -> Result<usize, Refusal>
-    requires { (from < end) × (end ≤ chunk) × Shifts block bits }
-    ensures { Answers (delivered (chunk_bytes index 0 (pieces block (records r.now.list.now) from (end - from))) (length out.old)) out.old result out.new }
+    requires { (from < end) × (end ≤ chunk) }
+    ensures { Answers (delivered (chunk_bytes index 0 (pieces block.bytes (records r.now.list.now) from (end - from))) (length out.old)) out.old result out.new }
 {
     let front = index as u64 * 4294967296;
-    if roomy(r.segments, from, end, bits, out.len()) {
-        return Ok(walk_pieces(r, from, end, block, bits, front, true, out, 0));
+    if roomy(r.segments, from, end, block.bits, out.len()) {
+        return Ok(walk_pieces(r, from, end, block, front, true, out, 0));
     }
-    let need = walk_pieces(r, from, end, block, bits, front, false, out, 0);
+    let need = walk_pieces(r, from, end, block, front, false, out, 0);
     if out.len() < need {
         return Err(Refusal::from(Kind::ShortBuffer));
     }
-    Ok(walk_pieces(r, from, end, block, bits, front, true, out, 0))
+    Ok(walk_pieces(r, from, end, block, front, true, out, 0))
 }

@@ -1,7 +1,6 @@
 // The piece of a file's lists that starts at a position.
-ghost use Rattle.std.specs.Prelude.{◌≡◌, true, [], ◌+◌, ◌-◌, ◌*◌, ◌/◌, ◌%◌, ◌^◌, ◌<◌, ◌≤◌, length, get_or};
+ghost use Rattle.std.specs.Prelude.{◌≡◌, [], ◌+◌, ◌*◌, ◌/◌, ◌%◌, ◌^◌, ◌<◌, ◌≤◌, length, get_or};
 ghost use Rattle.codec.specs.All.{All};
-ghost use Rattle.blocks.specs.Blocks.{block_allowed};
 ghost use Rattle.slices.specs.Accepts.{Accepts};
 ghost use Rattle.slices.specs.Limits.{chunk};
 ghost use Rattle.slices.specs.Record.{records};
@@ -13,6 +12,7 @@ ghost use Rattle.stepping.specs.Inner.{PieceFrom, Behind};
 use crate::pieces;
 use files::parts;
 use plans::Piece;
+use plans::shifts::BlockSize;
 use slices::CHUNK;
 
 // Where list k begins in the bytes of all lists.
@@ -31,12 +31,12 @@ pub(crate) fn piece_in(
     place: u32,
     p: u32,
     end: u32,
-    block: u32,
+    block: BlockSize,
 ) -> Piece
     requires lengths_value { (total lengths.now ≡ length lists.now) × All Accepts (parts lengths.now lists.now) }
-    requires lengths_len_bound { (length lengths.now ≤ max_lists) × (first + length lengths.now ≤ 2 ^ 32) × (block_allowed block ≡ true) }
+    requires lengths_len_bound { (length lengths.now ≤ max_lists) × (first + length lengths.now ≤ 2 ^ 32) }
     requires p_lt_end { (p < end) × (end ≤ length lengths.now * chunk) }
-    ensures { PieceFrom block (records (get_or (parts lengths.now lists.now) (p / chunk) [])) (first + p / chunk) place (p % chunk) (part_end end (p / chunk)) result }
+    ensures { PieceFrom block.bytes (records (get_or (parts lengths.now lists.now) (p / chunk) [])) (first + p / chunk) place (p % chunk) (part_end end (p / chunk)) result }
 {
     let k = p / CHUNK;
     let index = first + k;
@@ -44,8 +44,14 @@ pub(crate) fn piece_in(
     let stop = part.end;
     let from = begins(lists, lengths, k as usize);
     let to = from + lengths[k as usize] as usize;
-    let piece = pieces::scanned_at(&lists[from..to], index, place, part.from, stop, block);
-    if 0 < piece.len {
+    if let Some(piece) = pieces::scanned_at(
+        &lists[from..to],
+        index,
+        place,
+        part.from,
+        stop,
+        block,
+    ) {
         return piece;
     }
     pieces::resolved_at(&lists[from..to], index, place, part.from, stop, block)

@@ -8,9 +8,9 @@ ghost use Rattle.slices.specs.Record.{records};
 ghost use Rattle.resolve.specs.Resolved.{OnTop, Holds};
 ghost use Rattle.resolve.specs.Tops.{id_on};
 ghost use Rattle.runs.specs.Inner.{Leads};
-ghost use Rattle.plans.specs.Inner.{Shifts};
 ghost use Rattle.plans.specs.Location.{location_at, next_location, onward};
 
+use plans::shifts::BlockSize;
 use plans::{locations, reach};
 use resolve::segments::Resolved;
 use resolve::tops;
@@ -40,23 +40,23 @@ fn goes_on(list: &[u8], id: u64, a: u16, p: u32, b: u16, e: u32, block: u32) -> 
 }
 
 // Where the maximal run of locations, of the positions from p up to `end`, that starts at p ends; segment k holds p.
-pub(crate) fn run_to(r: &Resolved, k: usize, p: u32, end: u32, block: u32, bits: u32) -> u32
-    requires p_lt_end { (p < end) × (end ≤ chunk) × Shifts block bits }
+pub(crate) fn run_to(r: &Resolved, k: usize, p: u32, end: u32, block: BlockSize) -> u32
+    requires p_lt_end { (p < end) × (end ≤ chunk) }
     requires holds { Holds r.now.marks.now r.now.segments k p }
-    ensures { Leads next_location (location_at block (records r.now.list.now)) p end (location_at block (records r.now.list.now) p) result }
+    ensures { Leads next_location (location_at block.bytes (records r.now.list.now)) p end (location_at block.bytes (records r.now.list.now) p) result }
 {
     let top = r.tops[k];
     let id = tops::id_on(r.list, top);
     let mut segment = k;
-    let mut e = reach::same_block_to(r, k, p, end, block, bits);
+    let mut e = reach::same_block_to(r, k, p, end, block);
     while e < end {
         // A block ends inside the segment: no piece goes on there.
         if e < r.marks[segment + 1] {
             return e;
         }
         segment += 1;
-        if goes_on(r.list, id, top, p, r.tops[segment], e, block) {
-            e = reach::same_block_to(r, segment, e, end, block, bits);
+        if goes_on(r.list, id, top, p, r.tops[segment], e, block.bytes) {
+            e = reach::same_block_to(r, segment, e, end, block);
         } else {
             return e;
         }

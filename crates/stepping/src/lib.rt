@@ -13,6 +13,7 @@ ghost use Rattle.stepping.specs.Calls.{next_outcome, next_answer, next_file_outc
 use blocks::block_allowed;
 use joined::ListRefusal;
 use outcomes::{Kind, Refusal};
+use plans::shifts::BlockSize;
 use plans::{Piece, Span};
 use slices::{CHUNK, MAX_INDEX, check};
 
@@ -82,7 +83,7 @@ impl Place {
             at as u32,
             read.from + at as u32,
             read.end,
-            block_size as u32,
+            BlockSize::of(block_size as u32),
         );
         Ok(Some(Given {
             piece,
@@ -123,7 +124,7 @@ impl Place {
             at as u32,
             read.from + at as u32,
             read.end,
-            block_size as u32,
+            BlockSize::of(block_size as u32),
         );
         Ok(Some(Given {
             piece,

@@ -1,6 +1,5 @@
 // The piece of a list that starts at a position.
-ghost use Rattle.std.specs.Prelude.{◌≡◌, true, ◌+◌, ◌-◌, ◌<◌, ◌≤◌};
-ghost use Rattle.blocks.specs.Blocks.{block_allowed};
+ghost use Rattle.std.specs.Prelude.{◌≡◌, ◌+◌, ◌-◌, ◌<◌, ◌≤◌, IfSome};
 ghost use Rattle.slices.specs.Accepts.{Accepts};
 ghost use Rattle.slices.specs.Limits.{chunk};
 ghost use Rattle.slices.specs.Record.{records};
@@ -10,7 +9,7 @@ ghost use Rattle.plans.specs.Piece.{piece_of};
 ghost use Rattle.stepping.specs.Inner.{PieceFrom};
 
 use crate::{ends, rooms};
-use blocks::bits_of;
+use plans::shifts::BlockSize;
 use plans::{Location, OBJECT, Piece, ZEROS, locations};
 use resolve::tops;
 
@@ -48,24 +47,39 @@ fn piece_of(index: u32, place: u32, len: u32, first: Location) -> Piece
 }
 
 // The piece of the positions from p up to e, where the record `top`, counted from 1, lies on top of p.
-fn piece_with(list: &[u8], top: u16, index: u32, place: u32, p: u32, e: u32, block: u32) -> Piece
-    requires accepts { Accepts list.now × (block_allowed block ≡ true) }
+fn piece_with(
+    list: &[u8],
+    top: u16,
+    index: u32,
+    place: u32,
+    p: u32,
+    e: u32,
+    block: BlockSize,
+) -> Piece
+    requires accepts { Accepts list.now }
     requires on_top { OnTop list.now top p (p + 1) × (p ≤ e) }
-    ensures { result ≡ piece_of index place (e - p) (location_at block (records list.now) p) }
+    ensures { result ≡ piece_of index place (e - p) (location_at block.bytes (records list.now) p) }
 {
-    let first = locations::location_of(tops::source_of(list, top, p), block);
+    let first = locations::location_of(tops::source_of(list, top, p), block.bytes);
     piece_of(index, place, e - p, first)
 }
 
-// The piece that starts at position p, and ends at `end` at the latest, by one scan; one of no bytes where that does not tell.
-pub(crate) fn scanned_at(list: &[u8], index: u32, place: u32, p: u32, end: u32, block: u32) -> Piece
-    requires accepts { Accepts list.now × (block_allowed block ≡ true) }
+// The piece that starts at position p, and ends at `end` at the latest, by one scan, if that tells.
+pub(crate) fn scanned_at(
+    list: &[u8],
+    index: u32,
+    place: u32,
+    p: u32,
+    end: u32,
+    block: BlockSize,
+) -> Option<Piece>
+    requires accepts { Accepts list.now }
     requires p_lt_end { (p < end) × (end ≤ chunk) }
-    ensures { 0 < result.len → PieceFrom block (records list.now) index place p end result }
+    ensures { IfSome result (λ piece. PieceFrom block.bytes (records list.now) index place p end piece) }
 {
     let s = scanning::scan(list, p, end);
-    let e = ends::end_of(list, s, p, end, block);
-    piece_with(list, s.top, index, place, p, e, block)
+    let e = ends::end_of(list, s, p, end, block)?;
+    Some(piece_with(list, s.top, index, place, p, e, block))
 }
 
 // The same by the whole list resolved. It has two callers, and so a frame of its own: a piece that the scan tells does not pay for the room.
@@ -75,24 +89,30 @@ pub(crate) fn resolved_at(
     place: u32,
     p: u32,
     end: u32,
-    block: u32,
+    block: BlockSize,
 ) -> Piece
-    requires accepts { Accepts list.now × (block_allowed block ≡ true) }
+    requires accepts { Accepts list.now }
     requires p_lt_end { (p < end) × (end ≤ chunk) }
-    ensures { PieceFrom block (records list.now) index place p end result }
+    ensures { PieceFrom block.bytes (records list.now) index place p end result }
 {
-    let r = rooms::end_resolved(list, p, end, block, bits_of(block));
+    let r = rooms::end_resolved(list, p, end, block);
     piece_with(list, r.top, index, place, p, r.end, block)
 }
 
 // By the scan, or else resolved.
-pub(crate) fn piece_at(list: &[u8], index: u32, place: u32, p: u32, end: u32, block: u32) -> Piece
-    requires accepts { Accepts list.now × (block_allowed block ≡ true) }
+pub(crate) fn piece_at(
+    list: &[u8],
+    index: u32,
+    place: u32,
+    p: u32,
+    end: u32,
+    block: BlockSize,
+) -> Piece
+    requires accepts { Accepts list.now }
     requires p_lt_end { (p < end) × (end ≤ chunk) }
-    ensures { PieceFrom block (records list.now) index place p end result }
+    ensures { PieceFrom block.bytes (records list.now) index place p end result }
 {
-    let piece = scanned_at(list, index, place, p, end, block);
-    if 0 < piece.len {
+    if let Some(piece) = scanned_at(list, index, place, p, end, block) {
         return piece;
     }
     resolved_at(list, index, place, p, end, block)

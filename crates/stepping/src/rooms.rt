@@ -3,11 +3,11 @@ ghost use Rattle.std.specs.Prelude.{◌≡◌, ◌+◌, ◌<◌, ◌≤◌};
 ghost use Rattle.slices.specs.Accepts.{Accepts};
 ghost use Rattle.slices.specs.Limits.{chunk, max_records};
 ghost use Rattle.slices.specs.Record.{count};
-ghost use Rattle.plans.specs.Inner.{Shifts};
 ghost use Rattle.files.specs.Inner.{Fits};
 ghost use Rattle.stepping.specs.Inner.{EndsAt};
 
 use crate::joins;
+use plans::shifts::BlockSize;
 use resolve::room::Room;
 use slices::RECORD;
 
@@ -19,16 +19,16 @@ pub struct Ended {
 }
 
 // Resolves the list, and finds the piece that starts at position p.
-fn end_in(list: &[u8], p: u32, end: u32, block: u32, bits: u32, room: &mut Room) -> Ended
+fn end_in(list: &[u8], p: u32, end: u32, block: BlockSize, room: &mut Room) -> Ended
     requires resolvable { Fits room.old.records list.now }
-    requires p_lt_end { (p < end) × (end ≤ chunk) × Shifts block bits }
-    ensures { EndsAt block list.now p end result.top result.end }
+    requires p_lt_end { (p < end) × (end ≤ chunk) }
+    ensures { EndsAt block.bytes list.now p end result.top result.end }
 {
     let segments = room.resolve(list);
     let r = room.resolved(list, segments);
     let k = r.find(p);
     Ended {
-        end: joins::run_to(&r, k, p, end, block, bits),
+        end: joins::run_to(&r, k, p, end, block),
         top: r.tops[k],
     }
 }
@@ -38,13 +38,12 @@ pub(crate) fn sized<const N: usize, const MARKS: usize, const TOPS: usize>(
     list: &[u8],
     p: u32,
     end: u32,
-    block: u32,
-    bits: u32,
+    block: BlockSize,
 ) -> Ended
     requires accepts { Accepts list.now × (count list.now ≤ N) }
-    requires p_lt_end { (p < end) × (end ≤ chunk) × Shifts block bits }
+    requires p_lt_end { (p < end) × (end ≤ chunk) }
     requires room { (0 < N) × (N ≤ max_records) × (MARKS ≡ N + N + 2) × (TOPS ≡ N + N + 1) }
-    ensures { EndsAt block list.now p end result.top result.end }
+    ensures { EndsAt block.bytes list.now p end result.top result.end }
 {
     let mut marks = [0u32; MARKS];
     let mut tops = [0u16; TOPS];
@@ -61,17 +60,17 @@ pub(crate) fn sized<const N: usize, const MARKS: usize, const TOPS: usize>(
         order: &mut order,
         spare: &mut spare,
     };
-    end_in(list, p, end, block, bits, &mut room)
+    end_in(list, p, end, block, &mut room)
 }
 
 // In the smaller room that does.
-pub(crate) fn end_resolved(list: &[u8], p: u32, end: u32, block: u32, bits: u32) -> Ended
+pub(crate) fn end_resolved(list: &[u8], p: u32, end: u32, block: BlockSize) -> Ended
     requires accepts { Accepts list.now }
-    requires p_lt_end { (p < end) × (end ≤ chunk) × Shifts block bits }
-    ensures { EndsAt block list.now p end result.top result.end }
+    requires p_lt_end { (p < end) × (end ≤ chunk) }
+    ensures { EndsAt block.bytes list.now p end result.top result.end }
 {
     if list.len() / RECORD <= 256 {
-        return sized::<256, 514, 513>(list, p, end, block, bits);
+        return sized::<256, 514, 513>(list, p, end, block);
     }
-    sized::<2048, 4098, 4097>(list, p, end, block, bits)
+    sized::<2048, 4098, 4097>(list, p, end, block)
 }

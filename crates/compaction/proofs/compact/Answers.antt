@@ -28,13 +28,15 @@ returns-then-index-gt-MAX_INDEX c =
 pub overflow_cast-index : goal.overflow_cast-index
 overflow_cast-index c = omega (arith, c.if-index-gt-MAX_INDEX.false)
 
-pub overflow_cast-block : goal.overflow_cast-block
-overflow_cast-block c = omega (arith, ranged (goal.at.overflow_cast-block c).Else-not-block_allowed)
+pub overflow_cast-block_size : goal.overflow_cast-block_size
+overflow_cast-block_size c = omega (arith, ranged (goal.at.overflow_cast-block_size c).Else-not-block_allowed)
+
+pub of-block-requires : goal.of-block-requires
+of-block-requires c = sym c.block_allowed.ensures ∙ c.if-not-block_allowed.false
 
 pub compact_accepted-requires : goal.compact_accepted-requires
 compact_accepted-requires c =
-    let a = check_accepts _ _ (accepted (goal.at.compact_accepted-requires c).In_ok-check_list) in
-    record { accepts = a; block_value = sym c.block_allowed.ensures ∙ c.if-not-block_allowed.false }
+    record { accepts = check_accepts _ _ (accepted (goal.at.compact_accepted-requires c).In_ok-check_list) }
 
 pub returns-in_err-check_list : goal.returns-in_err-check_list
 returns-in_err-check_list c =
@@ -45,7 +47,7 @@ pub returns : goal.returns
 returns c =
     replies_as _ _ _ _
     (compact_accepted _ _ _ _ _ _ _ c.if-index-gt-MAX_INDEX.false _ c.block_allowed.ensures c.if-not-block_allowed.false _ (accepted (goal.at.returns c).In_ok-check_list))
-    c.compact_accepted.ensures
+    (rw c.of-block.ensures at c.compact_accepted.ensures)
 
 pub returns-then-not-block_allowed : goal.returns-then-not-block_allowed
 returns-then-not-block_allowed c =

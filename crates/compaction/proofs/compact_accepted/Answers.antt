@@ -18,7 +18,7 @@ returns-then-in_use c =
 pub compact_first-requires : goal.compact_first-requires
 unfolding count
 compact_first-requires c =
-    record { accepts = c.requires.accepts; block_value = c.requires.block_value; k_bound = c.if-list-k.false }
+    record { accepts = c.requires.accepts; k_bound = c.if-list-k.false }
 
 pub returns : goal.returns
 unfolding count

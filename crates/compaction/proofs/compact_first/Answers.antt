@@ -50,7 +50,7 @@ returns-then-new_list-list_bytes c =
 pub planned-requires : goal.planned-requires
 planned-requires c =
     let e = c.span-span.ensures in
-    record { all = passing (goal.at.planned-requires c).After-shared_slice_known-1; list_bound = (firsts_few c.args.list.now (c.args.k * record_size) c.requires.accepts.few, e.order, e.inside); block_value = c.requires.block_value }
+    record { all = passing (goal.at.planned-requires c).After-shared_slice_known-1; list_bound = (firsts_few c.args.list.now (c.args.k * record_size) c.requires.accepts.few, e.order, e.inside) }
 
 pub write_list-requires : goal.write_list-requires
 unfolding count

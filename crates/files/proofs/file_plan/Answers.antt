@@ -55,13 +55,16 @@ overflow_cast-first c =
     let r = right (goal.at.overflow_cast-first c).Else-wrong_chunks in
     omega (arith, r.indexes, r.some)
 
-pub overflow_cast-block : goal.overflow_cast-block
-overflow_cast-block c = omega (arith, block_range _ (allowed (goal.at.overflow_cast-block c).Else-not-block_allowed))
+pub overflow_cast-block_size : goal.overflow_cast-block_size
+overflow_cast-block_size c = omega (arith, block_range _ (allowed (goal.at.overflow_cast-block_size c).Else-not-block_allowed))
+
+pub of-block-requires : goal.of-block-requires
+of-block-requires c = allowed (goal.at.of-block-requires c).Else-not-block_allowed
 
 pub answer-requires : goal.answer-requires
 answer-requires c =
     let r = right (goal.at.answer-requires c).Else-wrong_chunks in
-    record { lengths_value = (r.adds, lists_accepted _ _ _ (said_accepted _ _ (told (goal.at.answer-requires c).In_ok-n))); lengths_len_bound = (r.few, r.indexes, c.cut-read.ensures.order); block_value = allowed (goal.at.answer-requires c).Else-not-block_allowed }
+    record { lengths_value = (r.adds, lists_accepted _ _ _ (said_accepted _ _ (told (goal.at.answer-requires c).In_ok-n))); lengths_len_bound = (r.few, r.indexes, c.cut-read.ensures.order) }
 
 pub returns-in_err-n : goal.returns-in_err-n
 returns-in_err-n c =
@@ -73,7 +76,7 @@ pub returns : goal.returns
 returns c =
     replies_as _ _ _ _
     (file_accepted _ _ _ _ _ _ _ _ (sym c.wrong_chunks.ensures ∙ c.if-wrong_chunks.false) (allowed (goal.at.returns c).Else-not-block_allowed) _ (told (goal.at.returns c).In_ok-n) _ _ (rw c.file_end.ensures at c.cut-read.ensures))
-    c.answer.ensures
+    (rw c.of-block.ensures at c.answer.ensures)
 
 pub returns-then-not-block_allowed : goal.returns-then-not-block_allowed
 returns-then-not-block_allowed c =

@@ -61,8 +61,11 @@ pub overflow_cast-first : goal.overflow_cast-first
 overflow_cast-first c =
     let r = right (goal.at.overflow_cast-first c).Else-wrong_chunks in omega (arith, r.indexes, r.some)
 
-pub overflow_cast-block : goal.overflow_cast-block
-overflow_cast-block c = omega (arith, block_range _ (allowed (goal.at.overflow_cast-block c).Else-not-block_allowed))
+pub overflow_cast-block_size : goal.overflow_cast-block_size
+overflow_cast-block_size c = omega (arith, block_range _ (allowed (goal.at.overflow_cast-block_size c).Else-not-block_allowed))
+
+pub of-block-requires : goal.of-block-requires
+of-block-requires c = allowed (goal.at.of-block-requires c).Else-not-block_allowed
 
 pub of_read-requires : goal.of_read-requires
 unfolding file_end
@@ -71,7 +74,7 @@ of_read-requires c =
     let u = c.cut-read.ensures in
     let m = accepted_count _ _ _ _ (told (goal.at.of_read-requires c).In_ok-n) in
     let within : c.cut-read.result.from + (c.cut-read.result.end - c.cut-read.result.from) ≤ length c.args.lengths.now * chunk = rw (← m) (omega (arith, u.within, u.order, c.file_end.ensures)) in
-    record { lengths_value = (r.adds, lists_accepted _ _ _ (said_accepted _ _ (told (goal.at.of_read-requires c).In_ok-n))); lengths_len_bound = (r.few, within, allowed (goal.at.of_read-requires c).Else-not-block_allowed) }
+    record { lengths_value = (r.adds, lists_accepted _ _ _ (said_accepted _ _ (told (goal.at.of_read-requires c).In_ok-n))); lengths_len_bound = (r.few, within) }
 
 pub returns-in_err-n : goal.returns-in_err-n
 returns-in_err-n c =
@@ -80,7 +83,7 @@ returns-in_err-n c =
 
 pub returns : goal.returns
 returns c =
-    judge_read _ _ _ _ _ _ _ _ (not_wrong (goal.at.returns c).Else-wrong_chunks) (allowed (goal.at.returns c).Else-not-block_allowed) _ (told (goal.at.returns c).In_ok-n) _ _ (rw c.file_end.ensures at c.cut-read.ensures) c.if-read.false _ c.of_read.ensures
+    judge_read _ _ _ _ _ _ _ _ (not_wrong (goal.at.returns c).Else-wrong_chunks) (allowed (goal.at.returns c).Else-not-block_allowed) _ (told (goal.at.returns c).In_ok-n) _ _ (rw c.file_end.ensures at c.cut-read.ensures) c.if-read.false _ (rw c.of-block.ensures at c.of_read.ensures)
 
 pub returns-then-not-block_allowed : goal.returns-then-not-block_allowed
 returns-then-not-block_allowed c =

@@ -36,8 +36,8 @@ pub cut-read-requires : goal.cut-read-requires
 unfolding chunk
 cut-read-requires c = omega arith
 
-pub overflow_cast-block : goal.overflow_cast-block
-overflow_cast-block c = omega (arith, ranged (goal.at.overflow_cast-block c).Else-not-block_allowed)
+pub overflow_cast-block_size : goal.overflow_cast-block_size
+overflow_cast-block_size c = omega (arith, ranged (goal.at.overflow_cast-block_size c).Else-not-block_allowed)
 
 pub overflow_cast-index : goal.overflow_cast-index
 overflow_cast-index c = omega (arith, c.if-index-gt-MAX_INDEX.false)
@@ -50,15 +50,15 @@ unfolding chunk count
 sized-requires-clause-list_bound c =
     (omega (arith, check_counts _ _ (accepted (goal.at.sized-requires-clause-list_bound c).In_ok-n), c.if-n-le32.true), c.cut-read.ensures.order, omega (arith, c.cut-read.ensures.within))
 
-pub sized-requires-clause-block_value : goal.sized-requires-clause-block_value
-sized-requires-clause-block_value c = sym c.block_allowed.ensures ∙ c.if-not-block_allowed.false
+pub of-block-requires : goal.of-block-requires
+of-block-requires c = sym c.block_allowed.ensures ∙ c.if-not-block_allowed.false
 
 pub returns-then-n-le32 : goal.returns-then-n-le32
 unfolding chunk
 returns-then-n-le32 c =
     answers_as _ _ _ _ _
     (read_accepted _ _ _ _ _ _ _ c.if-chunk_len.false c.if-index-gt-MAX_INDEX.false _ c.block_allowed.ensures c.if-not-block_allowed.false _ (accepted (goal.at.returns-then-n-le32 c).In_ok-n) _ _ c.cut-read.ensures)
-    c.sized.ensures
+    (rw c.of-block.ensures at c.sized.ensures)
 
 pub overflow_cast-index-2 : goal.overflow_cast-index-2
 overflow_cast-index-2 c = omega (arith, c.if-index-gt-MAX_INDEX.false)
@@ -67,7 +67,7 @@ pub many-requires : goal.many-requires
 unfolding chunk count
 many-requires c =
     let accepts = check_accepts _ _ (accepted (goal.at.many-requires c).In_ok-n) in
-    record { all = accepts.pass; list_bound = (accepts.few, c.cut-read.ensures.order, omega (arith, c.cut-read.ensures.within)); block_value = sym c.block_allowed.ensures ∙ c.if-not-block_allowed.false }
+    record { all = accepts.pass; list_bound = (accepts.few, c.cut-read.ensures.order, omega (arith, c.cut-read.ensures.within)) }
 
 pub returns-in_err-n : goal.returns-in_err-n
 unfolding chunk
@@ -81,7 +81,7 @@ unfolding chunk
 returns c =
     answers_as _ _ _ _ _
     (read_accepted _ _ _ _ _ _ _ c.if-chunk_len.false c.if-index-gt-MAX_INDEX.false _ c.block_allowed.ensures c.if-not-block_allowed.false _ (accepted (goal.at.returns c).In_ok-n) _ _ c.cut-read.ensures)
-    c.many.ensures
+    (rw c.of-block.ensures at c.many.ensures)
 
 pub returns-then-not-block_allowed : goal.returns-then-not-block_allowed
 unfolding chunk

@@ -3,10 +3,7 @@ use Prim.Native.Nat.{ℕ, ◌+◌, ◌-◌, ◌<◌, ◌≤◌}
 use native.Mathlib.Omega.{arith}
 use native.Mathlib.Nat.{le_refl}
 use mathlib.Core.Path.{◌≡◌, ap, ◌∙◌}
-use mathlib.Core.Bool.{true}
 use mathlib.Core.List.{List}
-use Rattle.blocks.specs.Blocks.{block_allowed}
-use Rattle.blocks.proofs.Laws.Blocks.{block_range}
 use Rattle.resolve.specs.Resolved.{OnTop}
 use Rattle.slices.specs.Record.{count}
 use Rattle.scanning.specs.Scan.{Scans, Clear}
@@ -20,9 +17,6 @@ use Rattle.slices.specs.declared.Record.{Record}
 use Rattle.scanning.specs.declared.Scanned.{Scanned}
 use Rattle.plans.specs.declared.Location.{Location}
 use Rattle.plans.specs.declared.Piece.{Piece}
-
-pub block_some : (B : ℕ) → block_allowed B ≡ true → 0 < B
-block_some B h = omega (arith, (block_range B h).0)
 
 -- ---- what a scan found
 
@@ -40,12 +34,6 @@ module _ (bs : List ℕ) (p end : ℕ) (s : Scanned) (h : Scans bs p end s) wher
   scan_unbroken B rs e u = record { some = u.some; inside = omega (arith, u.inside, h.inside); joins = u.joins }
 
 -- ---- the piece
-
--- one that has bytes goes on behind its first position
-pub piece_some : (index place p e : ℕ) (first : Location) {piece : Piece} → piece ≡ piece_of index place (e - p) first → 0 < piece.len → p < e
-piece_some index place p e first {piece} h l =
-    let n : piece.len ≡ e - p = ap (λ (x : Piece). x.len) h ∙ len_of index place (e - p) first in
-    omega arith
 
 -- by its end, and by where its first byte lies
 pub piece_from : (B : ℕ) (rs : List Record) (index place p end e : ℕ) {first : Location} {piece : Piece} → first ≡ location_at B rs p

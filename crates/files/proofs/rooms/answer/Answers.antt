@@ -7,33 +7,28 @@ use mathlib.Core.List.{List}
 use lib.ListN.{length}
 use Rattle.outcomes.proofs.Laws.Delivery.{delivered_room, counted_short, counted_done}
 use Rattle.joined.specs.Lists.{parts}
-use Rattle.plans.specs.Inner.{Shifts}
 use Rattle.plans.proofs.Laws.Shifts.{shifts_some}
 use Rattle.files.specs.Inner.{bytes_of}
 use Rattle.std.specs.Prelude.{Ok, Err}
 use Rattle.files.proofs.Laws.Walk.{bytes_room}
 use Rattle.files.proofs.rooms.answer.Goals as goal
-use Rattle.files.proofs.rooms.answer.Goals.{After-bits_of-bits, Start, Then-roomy}
+use Rattle.files.proofs.rooms.answer.Goals.{Start, Then-roomy}
 
 -- the bytes of the plan
 abbrev bytes : Start → List ℕ
-bytes c = let a = c.args in bytes_of a.first a.block a.from a.end 0 (parts a.lengths.now a.lists.now)
-
--- a block has as many bytes as its bits say
-shifts : (c : After-bits_of-bits) → Shifts c.args.block c.bits_of-bits.result
-shifts c = record { power = c.bits_of-bits.ensures.0; few = c.bits_of-bits.ensures.1 }
+bytes c = let a = c.args in bytes_of a.first a.block.bytes a.from a.end 0 (parts a.lengths.now a.lists.now)
 
 -- all pieces that can come have room
 fits : (c : Then-roomy)
-    → let a = c.args in length (bytes_of a.first a.block a.from a.end 0 (parts a.lengths.now a.lists.now)) ≤ length a.out.now
+    → let a = c.args in length (bytes_of a.first a.block.bytes a.from a.end 0 (parts a.lengths.now a.lists.now)) ≤ length a.out.now
 fits c =
-    let s : Shifts c.args.block c.bits_of-bits.result = record { power = c.bits_of-bits.ensures.0; few = c.bits_of-bits.ensures.1 } in
+    let s = c.args.block.shifts in
     let h = rw (← s.power) at (c.roomy.ensures c.if-roomy.true) in
     bytes_room _ _ _ _ _ _ c.requires.lengths_value.0 c.requires.lengths_value.1 (shifts_some _ _ s) _ h
 
 pub in_room-requires : goal.in_room-requires
 in_room-requires c =
-    record { lengths_value = c.requires.lengths_value; lengths_len_bound = (c.requires.lengths_len_bound.0, c.requires.lengths_len_bound.1, shifts (goal.at.in_room-requires c).After-bits_of-bits); lists_in_bounds = (λ t. fits (goal.at.in_room-requires c).Then-roomy) }
+    record { lengths_value = c.requires.lengths_value; lengths_len_bound = (c.requires.lengths_len_bound.0, c.requires.lengths_len_bound.1); lists_in_bounds = (λ t. fits (goal.at.in_room-requires c).Then-roomy) }
 
 pub returns-then-roomy : goal.returns-then-roomy
 returns-then-roomy c =
@@ -41,7 +36,7 @@ returns-then-roomy c =
 
 pub in_room-need-requires : goal.in_room-need-requires
 in_room-need-requires c =
-    record { lengths_value = c.requires.lengths_value; lengths_len_bound = (c.requires.lengths_len_bound.0, c.requires.lengths_len_bound.1, shifts (goal.at.in_room-need-requires c).After-bits_of-bits); lists_in_bounds = (λ t. absurd (false≢true t)) }
+    record { lengths_value = c.requires.lengths_value; lengths_len_bound = (c.requires.lengths_len_bound.0, c.requires.lengths_len_bound.1); lists_in_bounds = (λ t. absurd (false≢true t)) }
 
 pub returns-then-out-need : goal.returns-then-out-need
 returns-then-out-need c =
@@ -49,7 +44,7 @@ returns-then-out-need c =
 
 pub in_room-requires-2 : goal.in_room-requires-2
 in_room-requires-2 c =
-    record { lengths_value = c.requires.lengths_value; lengths_len_bound = (c.requires.lengths_len_bound.0, c.requires.lengths_len_bound.1, shifts (goal.at.in_room-requires-2 c).After-bits_of-bits); lists_in_bounds = (λ t. omega (arith, c.if-out-need.false, c.in_room-need.ensures.value)) }
+    record { lengths_value = c.requires.lengths_value; lengths_len_bound = (c.requires.lengths_len_bound.0, c.requires.lengths_len_bound.1); lists_in_bounds = (λ t. omega (arith, c.if-out-need.false, c.in_room-need.ensures.value)) }
 
 pub returns : goal.returns
 returns c =

@@ -40,8 +40,8 @@ overflow_add-front-2 c = omega (arith, c.requires.k_lt_max_lists.1, c.places_bef
 same : (c : After-resolved-r)
     → let a = c.args in
     let part = c.part-part.result in
-    front_bytes ((a.first + a.k) * 4294967296 + c.places_before.result) (pieces a.block (records c.resolved-r.result.list.now) part.from (part.end - part.from))
-    ≡ encode_pieces (chunk_plan a.first a.block a.from a.end a.k (records a.list.now))
+    front_bytes ((a.first + a.k) * 4294967296 + c.places_before.result) (pieces a.block.bytes (records c.resolved-r.result.list.now) part.from (part.end - part.from))
+    ≡ encode_pieces (chunk_plan a.first a.block.bytes a.from a.end a.k (records a.list.now))
 same c =
     let p = c.part-part.ensures in
     rw c.resolved-r.ensures (front_here _ _ _ _ _ _ _ _ p.0 p.1 _ c.places_before.ensures c.places_before.type_inv)
@@ -51,7 +51,7 @@ unfolding part_from part_end chunk
 walk_pieces-requires c =
     let e = c.part-part.ensures in
     let before = c.places_before in
-    record { from_lt_end = (c.if-part.false, omega (arith, e.1), c.requires.k_lt_max_lists.3); from_bound = (omega (arith, e.0, e.1, before.ensures, c.requires.k_lt_max_lists.0), c.requires.k_lt_max_lists.2); from_in_bounds = (λ t. omega (arith, c.requires.list_in_bounds t, ap length (same (goal.at.walk_pieces-requires c).After-resolved-r))) }
+    record { from_lt_end = (c.if-part.false, omega (arith, e.1)); from_bound = (omega (arith, e.0, e.1, before.ensures, c.requires.k_lt_max_lists.0), c.requires.k_lt_max_lists.2); from_in_bounds = (λ t. omega (arith, c.requires.list_in_bounds t, ap length (same (goal.at.walk_pieces-requires c).After-resolved-r))) }
 
 pub returns : goal.returns
 returns c =

@@ -36,7 +36,7 @@ walk_list-to-requires c =
     let a = c.args in
     let accepted = fits_accepted a.room.now.records (parts a.lengths.now a.lists.now) c.requires.lengths_value.1 in
     let r = walked_holds _ _ _ _ _ _ _ _ _ _ _ _ _ i.0 h _ refl in
-    record { resolvable = (r.0, omega (arith, r.1, i.1)); k_lt_max_lists = (omega (arith, h, c.requires.lengths_len_bound.0), omega (arith, h, c.requires.lengths_len_bound.1), walked_low _ _ _ _ _ _ c.requires.lengths_value.0 accepted (shifts_some _ _ c.requires.lengths_len_bound.2) _ _ _ _ _ _ _ i.0 c.requires.lengths_len_bound.0 (omega (arith, c.ranges.end)), c.requires.lengths_len_bound.2); list_in_bounds = walked_room _ _ _ _ _ _ _ _ _ _ _ _ _ i.0 h _ refl }
+    record { resolvable = (r.0, omega (arith, r.1, i.1)); k_lt_max_lists = (omega (arith, h, c.requires.lengths_len_bound.0), omega (arith, h, c.requires.lengths_len_bound.1), walked_low _ _ _ _ _ _ c.requires.lengths_value.0 accepted (shifts_some _ _ c.args.block.shifts) _ _ _ _ _ _ _ i.0 c.requires.lengths_len_bound.0 (omega (arith, c.ranges.end))); list_in_bounds = walked_room _ _ _ _ _ _ _ _ _ _ _ _ _ i.0 h _ refl }
 
 pub loop-k-preserved : goal.loop-k-preserved
 loop-k-preserved c =

@@ -6,5 +6,5 @@ use Rattle.files.proofs.Laws.Walk.{Walked}
 use Rattle.files.proofs.walk.walk_lists.Given as goal
 
 abbrev pub invariant-loop-k : goal.invariant-loop-k
-invariant-loop-k l = Walked l.first l.block l.from l.end (Fits l.initial.room.records) l.lengths l.lists l.write l.initial.out l.out l.at l.to l.k
+invariant-loop-k l = Walked l.first l.block.bytes l.from l.end (Fits l.initial.room.records) l.lengths l.lists l.write l.initial.out l.out l.at l.to l.k
     × (l.room.records ≡ l.initial.room.records)

@@ -23,7 +23,7 @@ lead_list-led-requires c =
     let h = c.loop-k-test.true in
     let a = c.args in
     let f = holds_here _ _ c.loop-k.invariant.0 _ _ c.loop-k.invariant.1.gone h _ refl (Fits a.room.now.records) c.requires.lengths_value.1 in
-    record { resolvable = (f.0, omega (arith, f.1, i.2)); n_bound = (c.requires.lengths_len_bound.1, c.requires.lengths_len_bound.2); number_in_bounds = (i.1.led.within, i.1.led.inside, i.1.led.order) }
+    record { resolvable = (f.0, omega (arith, f.1, i.2)); n_bound = c.requires.lengths_len_bound.1; number_in_bounds = (i.1.led.within, i.1.led.inside, i.1.led.order) }
 
 pub loop-k-preserved : goal.loop-k-preserved
 loop-k-preserved c =

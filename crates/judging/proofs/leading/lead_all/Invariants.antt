@@ -6,5 +6,5 @@ use Rattle.judging.proofs.Laws.Lists.{LedOver}
 use Rattle.judging.proofs.leading.lead_all.Given as goal
 
 abbrev pub invariant-loop-k : goal.invariant-loop-k
-invariant-loop-k l = (adds : total l.lengths ≡ length l.lists) × LedOver l.lengths l.lists adds l.first l.from l.n l.block l.plan l.at l.k l.led.number l.led.place
+invariant-loop-k l = (adds : total l.lengths ≡ length l.lists) × LedOver l.lengths l.lists adds l.first l.from l.n l.block.bytes l.plan l.at l.k l.led.number l.led.place
     × (l.room.records ≡ l.initial.room.records)

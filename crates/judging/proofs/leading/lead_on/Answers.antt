@@ -15,10 +15,10 @@ pub read_piece-p-requires : goal.read_piece-p-requires
 read_piece-p-requires c = omega (arith, c.loop-number-test.true)
 
 pub comes_next-requires : goal.comes_next-requires
-comes_next-requires c = c.requires.n_bound.0
+comes_next-requires c = c.requires.n_bound
 
 pub overflow_add-q : goal.overflow_add-q
-overflow_add-q c = omega (arith, c.loop-number.invariant.0.inside, c.requires.n_bound.0)
+overflow_add-q c = omega (arith, c.loop-number.invariant.0.inside, c.requires.n_bound)
 
 pub overflow_add-q-then-comes_next : goal.overflow_add-q-then-comes_next
 unfolding chunk
@@ -26,12 +26,12 @@ overflow_add-q-then-comes_next c =
     let t = c.comes_next.ensures c.if-comes_next.true in
     omega (arith, next_fits _ _ _ _ _ t.0 t.1)
 
-pub meet-met-requires : goal.meet-met-requires
+pub meet-requires : goal.meet-requires
 unfolding chunk
-meet-met-requires c =
+meet-requires c =
     let t = c.comes_next.ensures c.if-comes_next.true in
     let s = next_some _ _ _ _ _ t.0 t.1 in
-    record { q_lt_end = (omega arith, next_fits _ _ _ _ _ t.0 t.1, c.loop-number.invariant.1, c.requires.n_bound.1) }
+    record { q_lt_end = (omega arith, next_fits _ _ _ _ _ t.0 t.1, c.loop-number.invariant.1) }
 
 pub overflow_add-number : goal.overflow_add-number
 overflow_add-number c = omega (arith, c.loop-number-test.true, c.well_formed)
@@ -40,16 +40,17 @@ pub overflow_add-place : goal.overflow_add-place
 unfolding chunk
 overflow_add-place c =
     let t = c.comes_next.ensures c.if-comes_next.true in
-    omega (arith, next_inside _ _ _ _ _ t.0 t.1, c.requires.n_bound.0)
+    omega (arith, next_inside _ _ _ _ _ t.0 t.1, c.requires.n_bound)
 
 pub loop-number-preserved : goal.loop-number-preserved
 unfolding chunk
 loop-number-preserved c =
     let t = c.comes_next.ensures c.if-comes_next.true in
-    (leads_more _ _ _ _ _ _ _ _ _ _ c.read_piece-p.ensures t.0 t.1 c.loop-number.invariant.0 c.loop-number-test.true t.2 _ _ refl refl (c.meet-met.ensures.lies_at.0 c.if-met.true), c.meet-met.ensures.segment_lt_m)
+    let m = rw c.in-Some.is at c.meet.ensures in
+    (leads_more _ _ _ _ _ _ _ _ _ _ c.read_piece-p.ensures t.0 t.1 c.loop-number.invariant.0 c.loop-number-test.true t.2 _ _ refl refl m.0, m.1)
 
-pub returns-else-met : goal.returns-else-met
-returns-else-met c = c.loop-number.invariant.0
+pub returns-in_default : goal.returns-in_default
+returns-in_default c = c.loop-number.invariant.0
 
 pub returns-else-comes_next : goal.returns-else-comes_next
 returns-else-comes_next c = c.loop-number.invariant.0

@@ -5,7 +5,7 @@ use Rattle.judging.specs.Inner.{Leads}
 use Rattle.judging.proofs.leading.lead_on.Given as goal
 
 abbrev pub invariant-loop-number : goal.invariant-loop-number
-invariant-loop-number l = Leads l.first l.from l.n l.block l.k (records l.r.list.now) l.plan l.initial.number l.number l.place × (l.near < l.r.segments)
+invariant-loop-number l = Leads l.first l.from l.n l.block.bytes l.k (records l.r.list.now) l.plan l.initial.number l.number l.place × (l.near < l.r.segments)
 
 abbrev pub decreases-loop-number : goal.decreases-loop-number
 decreases-loop-number l = l.whole - l.number

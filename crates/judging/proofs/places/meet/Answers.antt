@@ -1,7 +1,6 @@
 -- `judging::places::meet` meets its contract. The invariant: the positions before `at` lie where the piece says, and the segment holds `at`.
 -- Assumes nothing.
 use native.Mathlib.Omega.{arith}
-use mathlib.Core.Bool.{true≢false, false≢true}
 use Rattle.resolve.proofs.Laws.Resolved.{resolved_at}
 use Rattle.plans.proofs.Laws.Shifts.{shifts_some}
 use Rattle.judging.proofs.Laws.Places.{strays_here, lies_on, following_holds}
@@ -25,17 +24,17 @@ overflow_sub-at c = c.loop-at.invariant.2
 
 pub same_at-requires : goal.same_at-requires
 same_at-requires c =
-    record { all = (ready_of c.args.r.now.ready).pass; block_nonzero = shifts_some _ _ c.requires.q_lt_end.3; on_top = resolved_at _ _ _ _ _ (ready_of c.args.r.now.ready).resolved _ _ c.loop-at.invariant.1 }
+    record { all = (ready_of c.args.r.now.ready).pass; block_nonzero = shifts_some _ _ c.args.block.shifts; on_top = resolved_at _ _ _ _ _ (ready_of c.args.r.now.ready).resolved _ _ c.loop-at.invariant.1 }
 
 pub same_block_to-at-requires : goal.same_block_to-at-requires
 same_block_to-at-requires c =
     let i = c.loop-at.invariant in
-    record { p_lt_end = (i.3, c.requires.q_lt_end.3); holds = i.1 }
+    record { p_lt_end = i.3; holds = i.1 }
 
 pub returns-then-end-at : goal.returns-then-end-at
 returns-then-end-at c =
     let i = c.loop-at.invariant in
-    record { lies_at = (λ t j l. lies_on _ _ _ _ _ i.2 _ c.same_at.ensures c.if-same_at.true _ _ c.same_block_to-at.ensures.unbroken.0 i.0 j (omega (arith, c.if-end-at.true)), λ t. absurd (true≢false t)); segment_lt_m = i.1.inside }
+    (λ j l. lies_on _ _ _ _ _ i.2 _ c.same_at.ensures c.if-same_at.true _ _ c.same_block_to-at.ensures.unbroken.0 i.0 j (omega (arith, c.if-end-at.true)), i.1.inside)
 
 pub following-segment-requires : goal.following-segment-requires
 following-segment-requires c = omega (arith, c.loop-at.invariant.1.inside, (ready_of c.args.r.now.ready).in_marks)
@@ -57,4 +56,4 @@ loop-at-preserved c =
 pub returns-else-same_at : goal.returns-else-same_at
 returns-else-same_at c =
     let i = c.loop-at.invariant in
-    record { lies_at = (λ t. absurd (false≢true t), λ t. strays_here _ _ _ _ _ i.2 _ c.same_at.ensures c.if-same_at.false _ i.3); segment_lt_m = i.1.inside }
+    strays_here _ _ _ _ _ i.2 _ c.same_at.ensures c.if-same_at.false _ i.3

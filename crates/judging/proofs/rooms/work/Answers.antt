@@ -12,7 +12,7 @@ use Rattle.judging.proofs.rooms.work.Goals as goal
 pub lead_all-requires : goal.lead_all-requires
 unfolding chunk
 lead_all-requires c =
-    record { lengths_value = c.requires.lengths_value; lengths_len_bound = (c.requires.lengths_len_bound.0, omega (arith, c.requires.lengths_len_bound.0, c.requires.lengths_len_bound.1), c.requires.lengths_len_bound.2) }
+    record { lengths_value = c.requires.lengths_value; lengths_len_bound = (c.requires.lengths_len_bound.0, omega (arith, c.requires.lengths_len_bound.0, c.requires.lengths_len_bound.1)) }
 
 pub returns-then-lead : goal.returns-then-lead
 returns-then-lead c = (λ h. c.lead_all.ensures, λ h. absurd (true≢false (sym c.if-lead.true ∙ h)))
@@ -24,7 +24,7 @@ first_misformed-limit-requires c = omega (arith, c.requires.lengths_len_bound.0,
 pub sift_all-number-requires : goal.sift_all-number-requires
 unfolding chunk
 sift_all-number-requires c =
-    record { lengths_value = c.requires.lengths_value; lengths_len_bound = (c.requires.lengths_len_bound.0, omega (arith, c.requires.lengths_len_bound.0, c.requires.lengths_len_bound.1), c.requires.lengths_len_bound.2); limit_in_bounds = c.first_misformed-limit.ensures.upper_bound }
+    record { lengths_value = c.requires.lengths_value; lengths_len_bound = (c.requires.lengths_len_bound.0, omega (arith, c.requires.lengths_len_bound.0, c.requires.lengths_len_bound.1)); limit_in_bounds = c.first_misformed-limit.ensures.upper_bound }
 
 pub overflow_mul-number : goal.overflow_mul-number
 overflow_mul-number c =

@@ -23,7 +23,7 @@ sift_list-left-requires c =
     let h = c.loop-k-test.true in
     let a = c.args in
     let f = holds_here _ _ c.loop-k.invariant.0 _ _ c.loop-k.invariant.1.gone h _ refl (Fits a.room.now.records) c.requires.lengths_value.1 in
-    record { resolvable = (f.0, omega (arith, f.1, i.2)); k_lt_max_lists = (omega (arith, h, c.requires.lengths_len_bound.0), c.requires.lengths_len_bound.1, c.requires.lengths_len_bound.2); limit_in_bounds = (omega (arith, i.1.within, c.requires.limit_in_bounds.0), λ j m. c.requires.limit_in_bounds.1 j (omega (arith, i.1.within))) }
+    record { resolvable = (f.0, omega (arith, f.1, i.2)); k_lt_max_lists = (omega (arith, h, c.requires.lengths_len_bound.0), c.requires.lengths_len_bound.1); limit_in_bounds = (omega (arith, i.1.within, c.requires.limit_in_bounds.0), λ j m. c.requires.limit_in_bounds.1 j (omega (arith, i.1.within))) }
 
 pub loop-k-preserved : goal.loop-k-preserved
 loop-k-preserved c =

@@ -6,5 +6,5 @@ use Rattle.judging.proofs.Laws.Lists.{SiftedOver}
 use Rattle.judging.proofs.sifting.sift_all.Given as goal
 
 abbrev pub invariant-loop-k : goal.invariant-loop-k
-invariant-loop-k l = (adds : total l.lengths ≡ length l.lists) × SiftedOver l.lengths l.lists adds l.first l.from l.n l.block l.plan l.limit l.at l.k l.left
+invariant-loop-k l = (adds : total l.lengths ≡ length l.lists) × SiftedOver l.lengths l.lists adds l.first l.from l.n l.block.bytes l.plan l.limit l.at l.k l.left
     × (l.room.records ≡ l.initial.room.records)

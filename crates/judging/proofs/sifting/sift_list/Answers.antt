@@ -12,4 +12,4 @@ resolve-segments-requires c = record { all = c.requires.resolvable.0.pass; few =
 
 pub sift_on-requires : goal.sift_on-requires
 sift_on-requires c =
-    record { n_bound = (c.requires.k_lt_max_lists.1, c.requires.k_lt_max_lists.2); limit_in_bounds = c.requires.limit_in_bounds }
+    record { n_bound = c.requires.k_lt_max_lists.1; limit_in_bounds = c.requires.limit_in_bounds }

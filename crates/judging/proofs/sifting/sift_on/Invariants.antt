@@ -5,4 +5,4 @@ use Rattle.judging.proofs.Laws.Sifting.{LieBefore}
 use Rattle.judging.proofs.sifting.sift_on.Given as goal
 
 abbrev pub invariant-loop-i : goal.invariant-loop-i
-invariant-loop-i l = LieBefore l.from l.block l.k (records l.r.list.now) l.plan l.i × (l.near < l.r.segments)
+invariant-loop-i l = LieBefore l.from l.block.bytes l.k (records l.r.list.now) l.plan l.i × (l.near < l.r.segments)

@@ -19,7 +19,7 @@ use Rattle.plans.proofs.bytes.put_piece.Goals.{After-wide}
 -- the record that gives the position its byte
 giving : (c : After-wide) → let a = c.args in Giving a.list.now a.top a.p (c.wide.result - 1)
 giving c =
-    top_giving _ _ _ _ c.requires.all.0 c.requires.on_top (λ e. c.if-id_on-eq0.false (c.id_on.ensures ∙ e)) c.wide.ensures
+    top_giving _ _ _ _ c.requires.all c.requires.on_top (λ e. c.if-id_on-eq0.false (c.id_on.ensures ∙ e)) c.wide.ensures
 
 pub id_on-requires : goal.id_on-requires
 id_on-requires c = λ i e. (c.requires.on_top.covering i e).0
@@ -27,7 +27,7 @@ id_on-requires c = λ i e. (c.requires.on_top.covering i e).0
 pub returns-then-id_on-eq0 : goal.returns-then-id_on-eq0
 unfolding mark_of
 returns-then-id_on-eq0 c =
-    let h = top_hole _ _ _ _ c.requires.on_top c.requires.all.0 (sym c.id_on.ensures ∙ c.if-id_on-eq0.true) in
+    let h = top_hole _ _ _ _ c.requires.on_top c.requires.all (sym c.id_on.ensures ∙ c.if-id_on-eq0.true) in
     piece_put c.args.out.now _ _ _ c.args.to _ _ Hole c.requires.piece_size_in_bounds c.write_be32.ensures c.put_front.ensures c.put_nothing.ensures
     ∙ ap (λ (a : Location). splice c.args.out.now c.args.to (encode_piece (piece_of (c.args.front / 2 ^ 32) (c.args.front % 2 ^ 32) c.args.len a))) (sym h)
 
@@ -37,13 +37,13 @@ overflow_sub-wide c = omega (arith, (giving c).is, c.wide.ensures)
 pub put_object-requires : goal.put_object-requires
 put_object-requires c =
     let g = giving (goal.at.put_object-requires c).After-wide in
-    record { record_size_in_bounds = (g.inside, search rules, c.requires.all.1); passes = (g.passes, g.some); i_bound = (g.from, g.to) }
+    record { record_size_in_bounds = (g.inside, search rules); passes = (g.passes, g.some); i_bound = (g.from, g.to) }
 
 pub returns : goal.returns
 returns c =
     let h = top_location _ _ _ _ _ c.requires.on_top (giving (goal.at.returns c).After-wide) in
     let r = record_at c.args.list.now (c.wide.result - 1) in
-    let a = location c.args.block (given r c.args.p) in
+    let a = location c.args.block.bytes (given r c.args.p) in
     piece_put c.args.out.now _ _ _ c.args.to _ _ a c.requires.piece_size_in_bounds c.write_be32.ensures
-    (rw (← giving_mark c.args.block _ _ _ _ (giving (goal.at.returns c).After-wide)) c.put_front-2.ensures) c.put_object.ensures
+    (rw (← giving_mark c.args.block.bytes _ _ _ _ (giving (goal.at.returns c).After-wide)) c.put_front-2.ensures) c.put_object.ensures
     ∙ ap (λ (b : Location). splice c.args.out.now c.args.to (encode_piece (piece_of (c.args.front / 2 ^ 32) (c.args.front % 2 ^ 32) c.args.len b))) (sym h)

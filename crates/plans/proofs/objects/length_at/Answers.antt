@@ -5,7 +5,7 @@ use Rattle.plans.proofs.objects.length_at.Goals as goal
 
 pub length_of-requires : goal.length_of-requires
 length_of-requires c =
-    record { shifts = c.requires.passes.2; off_lt_size = omega (arith, c.off_in.ensures, c.read_size-size.ensures, c.requires.passes.0.within c.requires.passes.1, c.requires.i_bound.0, c.requires.i_bound.1) }
+    record { off_lt_size = omega (arith, c.off_in.ensures, c.read_size-size.ensures, c.requires.passes.0.within c.requires.passes.1, c.requires.i_bound.0, c.requires.i_bound.1) }
 
 pub returns : goal.returns
 returns c = c.length_of.ensures ∙ rw (c.off_in.ensures, c.read_size-size.ensures)

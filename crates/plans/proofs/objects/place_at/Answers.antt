@@ -4,4 +4,4 @@ use mathlib.Core.Path.{ap, ◌∙◌}
 use Rattle.plans.proofs.objects.place_at.Goals as goal
 
 pub returns : goal.returns
-returns c = c.place_of.ensures ∙ ap (λ (o : ℕ). o % c.args.block) c.off_in.ensures
+returns c = c.place_of.ensures ∙ ap (λ (o : ℕ). o % c.args.block.bytes) c.off_in.ensures

@@ -9,11 +9,11 @@ use Rattle.plans.specs.Location.{location_at, next_location}
 use Rattle.plans.proofs.reach.reach.Given as goal
 
 abbrev pub invariant-loop-e : goal.invariant-loop-e
-invariant-loop-e l = Unbroken next_location (location_at l.block (records l.r.list.now)) l.p l.end l.e
+invariant-loop-e l = Unbroken next_location (location_at l.block.bytes (records l.r.list.now)) l.p l.end l.e
     × (l.segment < l.r.segments)
     × (get_or l.r.marks.now l.segment 0 ≤ l.e)
     × (l.e ≤ get_or l.r.marks.now (l.segment + 1) 0)
-    × (l.e < get_or l.r.marks.now (l.segment + 1) 0 → Stops next_location (location_at l.block (records l.r.list.now)) l.e l.end)
+    × (l.e < get_or l.r.marks.now (l.segment + 1) 0 → Stops next_location (location_at l.block.bytes (records l.r.list.now)) l.e l.end)
 
 abbrev pub decreases-loop-e : goal.decreases-loop-e
 decreases-loop-e l = l.end - l.e

@@ -8,7 +8,7 @@ use Rattle.plans.proofs.reach.same_block_to.Goals as goal
 pub same_top_to-requires : goal.same_top_to-requires
 same_top_to-requires c =
     let u = c.until-e.ensures in
-    record { all = (ready_of c.args.r.now.ready).pass; p_lt_e = (⊎_elim (λ f. omega (arith, c.requires.holds.to)) (λ f. omega (arith, c.requires.p_lt_end.0)) u.one, c.requires.p_lt_end.1); on_top = top_within _ _ _ _ ((ready_of c.args.r.now.ready).resolved.on_top _ c.requires.holds.inside) _ _ c.requires.holds.from u.left }
+    record { all = (ready_of c.args.r.now.ready).pass; p_lt_e = ⊎_elim (λ f. omega (arith, c.requires.holds.to)) (λ f. omega (arith, c.requires.p_lt_end)) u.one; on_top = top_within _ _ _ _ ((ready_of c.args.r.now.ready).resolved.on_top _ c.requires.holds.inside) _ _ c.requires.holds.from u.left }
 
 pub returns : goal.returns
 returns c =

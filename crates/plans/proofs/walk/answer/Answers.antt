@@ -26,7 +26,7 @@ use Rattle.plans.proofs.walk.answer.Goals.{Start, Then-roomy}
 
 -- the plan, and its bytes
 abbrev planned : Start → List (Run Location)
-planned c = let a = c.args in pieces a.block (records a.r.now.list.now) a.from (a.end - a.from)
+planned c = let a = c.args in pieces a.block.bytes (records a.r.now.list.now) a.from (a.end - a.from)
 
 abbrev bytes : Start → List ℕ
 bytes c = chunk_bytes c.args.index 0 (planned c)
@@ -40,9 +40,9 @@ writes c o o' e = e ∙ ap (splice o 0) (front_chunk c.args.index (planned c))
 
 -- all pieces that can come have room
 fits : (c : Then-roomy)
-    → let a = c.args in length (chunk_bytes a.index 0 (pieces a.block (records a.r.now.list.now) a.from (a.end - a.from))) ≤ length a.out.now
+    → let a = c.args in length (chunk_bytes a.index 0 (pieces a.block.bytes (records a.r.now.list.now) a.from (a.end - a.from))) ≤ length a.out.now
 fits c =
-    let s = c.requires.2 in
+    let s = c.args.block.shifts in
     let h = rw (← s.power) at (c.roomy.ensures c.if-roomy.true) in
     plan_room_lem _ _ (shifts_some _ _ s) _ _ _ _ (ready_of c.args.r.now.ready).resolved c.requires.1 _ _ _ _ c.requires.0 h
 
@@ -53,7 +53,7 @@ low c = (omega (arith, c.requires.1), omega arith)
 
 pub roomy-requires : goal.roomy-requires
 roomy-requires c =
-    (resolved_few _ _ _ _ _ (ready_of c.args.r.now.ready).resolved, omega (arith, c.requires.0), c.requires.2.few)
+    (resolved_few _ _ _ _ _ (ready_of c.args.r.now.ready).resolved, omega (arith, c.requires.0), c.args.block.shifts.few)
 
 pub walk_pieces-requires : goal.walk_pieces-requires
 walk_pieces-requires c =

@@ -23,8 +23,8 @@ use Rattle.plans.proofs.walk.walk_pieces.Goals.{After-reach-run, In-loop-p, Star
 
 -- what is written is the plan's bytes
 bytes : (c : Start) → let a = c.args in
-    flat_map encode_run (pieces_left a.block (records a.r.now.list.now) a.front a.from a.end a.from) ≡ front_bytes a.front (pieces a.block (records a.r.now.list.now) a.from (a.end - a.from))
-bytes c = let a = c.args in left_bytes a.block (records a.r.now.list.now) a.front a.from a.end
+    flat_map encode_run (pieces_left a.block.bytes (records a.r.now.list.now) a.front a.from a.end a.from) ≡ front_bytes a.front (pieces a.block.bytes (records a.r.now.list.now) a.from (a.end - a.from))
+bytes c = let a = c.args in left_bytes a.block.bytes (records a.r.now.list.now) a.front a.from a.end
 
 -- the segment that holds a piece's first position
 held : (c : In-loop-p) → let a = c.args in Holds a.r.now.marks.now a.r.now.segments c.loop-p.k c.loop-p.p
@@ -46,7 +46,7 @@ bounds-r-k c = omega (arith, (held (goal.at.bounds-r-k c).In-loop-p).inside, (re
 
 pub reach-run-requires : goal.reach-run-requires
 reach-run-requires c =
-    record { p_lt_end = (c.loop-p-test.true, c.requires.from_lt_end.1, c.requires.from_lt_end.2); holds = held (goal.at.reach-run-requires c).In-loop-p }
+    record { p_lt_end = (c.loop-p-test.true, c.requires.from_lt_end.1); holds = held (goal.at.reach-run-requires c).In-loop-p }
 
 pub overflow_sub-at : goal.overflow_sub-at
 overflow_sub-at c = omega (arith, c.loop-p.invariant.2)
@@ -65,7 +65,7 @@ overflow_sub-p c = omega (arith, c.reach-run.ensures.leads.some)
 
 pub put_if-requires : goal.put_if-requires
 put_if-requires c =
-    record { all = ((ready_of c.args.r.now.ready).pass, c.requires.from_lt_end.2); on_top = on_top (goal.at.put_if-requires c).In-loop-p; piece_size_in_bounds = filled_room _ _ _ _ _ _ _ _ _ _ _ _ _ c.loop-p.invariant.0 c.reach-run.ensures.leads.some c.reach-run.ensures.leads.inside _ (left_more _ _ _ _ _ _ _ _ c.reach-run.ensures.leads) }
+    record { all = (ready_of c.args.r.now.ready).pass; on_top = on_top (goal.at.put_if-requires c).In-loop-p; piece_size_in_bounds = filled_room _ _ _ _ _ _ _ _ _ _ _ _ _ c.loop-p.invariant.0 c.reach-run.ensures.leads.some c.reach-run.ensures.leads.inside _ (left_more _ _ _ _ _ _ _ _ c.reach-run.ensures.leads) }
 
 pub overflow_add-to : goal.overflow_add-to
 unfolding chunk

@@ -70,6 +70,9 @@ overflow_cast-first_index c =
 pub overflow_cast-block_size : goal.overflow_cast-block_size
 overflow_cast-block_size c = omega (arith, block_range _ (allowed (goal.at.overflow_cast-block_size c).Else-not-block_allowed))
 
+pub of-requires : goal.of-requires
+of-requires c = allowed (goal.at.of-requires c).Else-not-block_allowed
+
 pub piece_in-piece-requires : goal.piece_in-piece-requires
 unfolding file_end
 piece_in-piece-requires c =
@@ -77,7 +80,7 @@ piece_in-piece-requires c =
     let u = c.cut-read.ensures in
     let m = accepted_count _ _ _ _ (told (goal.at.piece_in-piece-requires c).In_ok-n) in
     let within : c.cut-read.result.end ≤ length c.args.lengths.now * chunk = rw (← m) (omega (arith, u.within, c.file_end.ensures)) in
-    record { lengths_value = (r.adds, lists_accepted _ _ _ (said_accepted _ _ (told (goal.at.piece_in-piece-requires c).In_ok-n))); lengths_len_bound = (r.few, r.indexes, allowed (goal.at.piece_in-piece-requires c).Else-not-block_allowed); p_lt_end = (omega (arith, c.if-bytes_of-at.false, c.bytes_of.ensures, u.order), within) }
+    record { lengths_value = (r.adds, lists_accepted _ _ _ (said_accepted _ _ (told (goal.at.piece_in-piece-requires c).In_ok-n))); lengths_len_bound = (r.few, r.indexes); p_lt_end = (omega (arith, c.if-bytes_of-at.false, c.bytes_of.ensures, u.order), within) }
 
 pub behind-requires : goal.behind-requires
 behind-requires c = omega (arith, c.if-bytes_of-at.false, c.bytes_of.ensures)
@@ -89,7 +92,7 @@ returns-in_err-n c =
 
 pub returns : goal.returns
 returns c =
-    next_file_given _ _ _ _ _ _ _ _ (not_wrong (goal.at.returns c).Else-wrong_chunks) (allowed (goal.at.returns c).Else-not-block_allowed) _ (told (goal.at.returns c).In_ok-n) _ _ (rw c.file_end.ensures at c.cut-read.ensures) (omega (arith, c.if-bytes_of-at.false, c.bytes_of.ensures)) _ c.piece_in-piece.ensures _ c.behind.ensures
+    next_file_given _ _ _ _ _ _ _ _ (not_wrong (goal.at.returns c).Else-wrong_chunks) (allowed (goal.at.returns c).Else-not-block_allowed) _ (told (goal.at.returns c).In_ok-n) _ _ (rw c.file_end.ensures at c.cut-read.ensures) (omega (arith, c.if-bytes_of-at.false, c.bytes_of.ensures)) _ (rw c.of.ensures at c.piece_in-piece.ensures) _ c.behind.ensures
 
 pub returns-then-not-block_allowed : goal.returns-then-not-block_allowed
 returns-then-not-block_allowed c =

@@ -42,11 +42,14 @@ returns-then-bytes_of-at c =
 pub overflow_cast-block_size : goal.overflow_cast-block_size
 overflow_cast-block_size c = omega (arith, block_range _ (allowed (goal.at.overflow_cast-block_size c).Else-not-block_allowed))
 
+pub of-requires : goal.of-requires
+of-requires c = allowed (goal.at.of-requires c).Else-not-block_allowed
+
 pub piece_at-piece-requires : goal.piece_at-piece-requires
 unfolding chunk
 piece_at-piece-requires c =
     let u = c.cut-read.ensures in
-    record { accepts = (check_accepts _ _ (accepted (goal.at.piece_at-piece-requires c).In_ok-check_list), allowed (goal.at.piece_at-piece-requires c).Else-not-block_allowed); p_lt_end = (omega (arith, c.if-bytes_of-at.false, c.bytes_of.ensures, u.order), omega (arith, u.within)) }
+    record { accepts = check_accepts _ _ (accepted (goal.at.piece_at-piece-requires c).In_ok-check_list); p_lt_end = (omega (arith, c.if-bytes_of-at.false, c.bytes_of.ensures, u.order), omega (arith, u.within)) }
 
 pub behind-requires : goal.behind-requires
 behind-requires c = omega (arith, c.if-bytes_of-at.false, c.bytes_of.ensures)
@@ -61,7 +64,7 @@ returns-in_err-check_list c =
 pub returns : goal.returns
 unfolding chunk
 returns c =
-    next_given _ _ _ _ _ _ _ c.if-chunk_len.false c.if-index-gt-MAX_INDEX.false _ c.block_allowed.ensures c.if-not-block_allowed.false _ (accepted (goal.at.returns c).In_ok-check_list) _ _ c.cut-read.ensures (omega (arith, c.if-bytes_of-at.false, c.bytes_of.ensures)) _ c.piece_at-piece.ensures _ c.behind.ensures
+    next_given _ _ _ _ _ _ _ c.if-chunk_len.false c.if-index-gt-MAX_INDEX.false _ c.block_allowed.ensures c.if-not-block_allowed.false _ (accepted (goal.at.returns c).In_ok-check_list) _ _ c.cut-read.ensures (omega (arith, c.if-bytes_of-at.false, c.bytes_of.ensures)) _ (rw c.of.ensures at c.piece_at-piece.ensures) _ c.behind.ensures
 
 pub returns-then-not-block_allowed : goal.returns-then-not-block_allowed
 unfolding chunk

@@ -33,24 +33,24 @@ pub bounds-lengths-k : goal.bounds-lengths-k
 unfolding chunk
 bounds-lengths-k c = within (goal.at.bounds-lengths-k c).Start
 
-pub scanned_at-piece-requires : goal.scanned_at-piece-requires
+pub scanned_at-requires : goal.scanned_at-requires
 unfolding chunk
-scanned_at-piece-requires c =
+scanned_at-requires c =
     let e = c.part-part.ensures in
-    record { accepts = (here_accepted _ _ _ _ _ c.begins-from.ensures refl (within (goal.at.scanned_at-piece-requires c).Start) c.requires.lengths_value.1, c.requires.lengths_len_bound.2); p_lt_end = (part_some _ _ e.0 e.1 c.requires.p_lt_end.0, part_short _ _ e.0 e.1) }
+    record { accepts = here_accepted _ _ _ _ _ c.begins-from.ensures refl (within (goal.at.scanned_at-requires c).Start) c.requires.lengths_value.1; p_lt_end = (part_some _ _ e.0 e.1 c.requires.p_lt_end.0, part_short _ _ e.0 e.1) }
 
-pub returns-then-piece-gt0 : goal.returns-then-piece-gt0
+pub returns-in-Some : goal.returns-in-Some
 unfolding chunk
-returns-then-piece-gt0 c =
+returns-in-Some c =
     let e = c.part-part.ensures in
     let a = c.args in
-    piece_there _ _ e.0 e.1 _ _ _ (parts a.lengths.now a.lists.now) (list_here_lem _ _ _ _ _ c.begins-from.ensures refl) (c.scanned_at-piece.ensures c.if-piece-gt0.true)
+    piece_there _ _ e.0 e.1 _ _ _ (parts a.lengths.now a.lists.now) (list_here_lem _ _ _ _ _ c.begins-from.ensures refl) (rw c.in-Some.is at c.scanned_at.ensures)
 
 pub resolved_at-requires : goal.resolved_at-requires
 unfolding chunk
 resolved_at-requires c =
     let e = c.part-part.ensures in
-    record { accepts = (here_accepted _ _ _ _ _ c.begins-from.ensures refl (within (goal.at.resolved_at-requires c).Start) c.requires.lengths_value.1, c.requires.lengths_len_bound.2); p_lt_end = (part_some _ _ e.0 e.1 c.requires.p_lt_end.0, part_short _ _ e.0 e.1) }
+    record { accepts = here_accepted _ _ _ _ _ c.begins-from.ensures refl (within (goal.at.resolved_at-requires c).Start) c.requires.lengths_value.1; p_lt_end = (part_some _ _ e.0 e.1 c.requires.p_lt_end.0, part_short _ _ e.0 e.1) }
 
 pub returns : goal.returns
 unfolding chunk

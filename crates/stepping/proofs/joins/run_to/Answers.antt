@@ -30,7 +30,7 @@ id_on-id-requires c = λ i e. (((ready_of c.args.r.now.ready).resolved.on_top _ 
 
 pub same_block_to-e-requires : goal.same_block_to-e-requires
 same_block_to-e-requires c =
-    record { p_lt_end = (c.requires.p_lt_end.0, c.requires.p_lt_end.2); holds = c.requires.holds }
+    record { p_lt_end = c.requires.p_lt_end.0; holds = c.requires.holds }
 
 pub loop-e-init : goal.loop-e-init
 loop-e-init c =
@@ -62,11 +62,11 @@ bounds-r-segment-in-loop-e c = omega (arith, (on (goal.at.bounds-r-segment-in-lo
 pub goes_on-requires : goal.goes_on-requires
 goes_on-requires c =
     let r = (ready_of c.args.r.now.ready).resolved in
-    record { all = (ready_of c.args.r.now.ready).pass; p_lt_e = (c.loop-e.invariant.0.some, shifts_some _ _ c.requires.p_lt_end.2, c.id_on-id.ensures); on_top = resolved_at _ _ _ _ _ r _ _ c.requires.holds; on_top_2 = resolved_at _ _ _ _ _ r _ _ (on (goal.at.goes_on-requires c).Else-e-r) }
+    record { all = (ready_of c.args.r.now.ready).pass; p_lt_e = (c.loop-e.invariant.0.some, shifts_some _ _ c.args.block.shifts, c.id_on-id.ensures); on_top = resolved_at _ _ _ _ _ r _ _ c.requires.holds; on_top_2 = resolved_at _ _ _ _ _ r _ _ (on (goal.at.goes_on-requires c).Else-e-r) }
 
 pub same_block_to-e-requires-then-goes_on : goal.same_block_to-e-requires-then-goes_on
 same_block_to-e-requires-then-goes_on c =
-    record { p_lt_end = (c.loop-e-test.true, c.requires.p_lt_end.2); holds = on (goal.at.same_block_to-e-requires-then-goes_on c).Else-e-r }
+    record { p_lt_end = c.loop-e-test.true; holds = on (goal.at.same_block_to-e-requires-then-goes_on c).Else-e-r }
 
 pub loop-e-smaller : goal.loop-e-smaller
 loop-e-smaller c =

@@ -2,12 +2,12 @@
 use mathlib.Core.Path.{ap, ◌∙◌}
 use Rattle.plans.specs.Piece.{piece_of}
 use Rattle.plans.proofs.Laws.Locations.{cover_inside, location_is}
-use Rattle.stepping.proofs.Laws.Ends.{block_some}
+use Rattle.plans.proofs.Laws.Shifts.{shifts_some}
 use Rattle.stepping.proofs.pieces.piece_with.Goals as goal
 
 pub location_of-first-requires : goal.location_of-first-requires
 location_of-first-requires c =
-    record { inside = rw c.source_of.ensures (cover_inside _ c.requires.accepts.0.pass _); block_nonzero = block_some _ c.requires.accepts.1 }
+    record { inside = rw c.source_of.ensures (cover_inside _ c.requires.accepts.pass _); block_nonzero = shifts_some _ _ c.args.block.shifts }
 
 pub returns : goal.returns
 returns c =
