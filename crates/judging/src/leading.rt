@@ -62,25 +62,24 @@ fn lead_on(
     ensures { Leads first from n block.bytes k (records r.now.list.now) plan.now start.number result.number result.place }
 {
     let whole = plan.len() / PIECE;
-    let mut number = start.number;
     let mut place = start.place;
     let mut near = 0;
-    while number < whole {
+    for number in start.number..whole {
         let p = pieces::read_piece(plan, number * PIECE);
-        if comes_next(p, place, k, first, from, n) {
-            let q = (from + place) % CHUNK;
-            if let Some(segment) = places::meet(r, near, q, q + p.len, block, p) {
-                near = segment;
-                number += 1;
-                place += p.len;
-            } else {
-                return Lead { number, place };
-            }
-        } else {
+        if !comes_next(p, place, k, first, from, n) {
             return Lead { number, place };
         }
+        let q = (from + place) % CHUNK;
+        let Some(segment) = places::meet(r, near, q, q + p.len, block, p) else {
+            return Lead { number, place };
+        };
+        near = segment;
+        place += p.len;
     }
-    Lead { number, place }
+    Lead {
+        number: whole,
+        place,
+    }
 }
 
 // The same over the list of chunk k as it is. It is resolved only where a piece is found for it.
