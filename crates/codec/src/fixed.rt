@@ -1,28 +1,14 @@
 // Numbers of a fixed width, the highest byte first.
-ghost use Rattle.std.specs.Prelude.{◌≡◌, ◌+◌, ◌*◌, ◌≤◌, length};
+ghost use Rattle.std.specs.Prelude.{◌≡◌, ◌+◌, ◌≤◌, length};
 ghost use Rattle.codec.specs.Fixed.{big_endian, number_at};
 ghost use Rattle.codec.specs.Splice.{splice};
-
-// The number that two bytes make.
-fn pair(a: u8, b: u8) -> u16
-    ensures { result ≡ a * 256 + b }
-{
-    a as u16 * 256 + b as u16
-}
 
 // The number that the two bytes from `at` make.
 pub fn read_be16(s: &[u8], at: usize) -> u16
     requires { at + 2 ≤ length s.now }
     ensures { result ≡ number_at s.now at 2 }
 {
-    pair(s[at], s[at + 1])
-}
-
-// The number that four bytes make.
-fn join(a: u8, b: u8, c: u8, d: u8) -> u32
-    ensures { result ≡ ((a * 256 + b) * 256 + c) * 256 + d }
-{
-    ((a as u32 * 256 + b as u32) * 256 + c as u32) * 256 + d as u32
+    u16::from_be_bytes([s[at], s[at + 1]])
 }
 
 // The number that the four bytes from `at` make.
@@ -30,7 +16,7 @@ pub fn read_be32(s: &[u8], at: usize) -> u32
     requires { at + 4 ≤ length s.now }
     ensures { result ≡ number_at s.now at 4 }
 {
-    join(s[at], s[at + 1], s[at + 2], s[at + 3])
+    u32::from_be_bytes([s[at], s[at + 1], s[at + 2], s[at + 3]])
 }
 
 // The number that the eight bytes from `at` make.

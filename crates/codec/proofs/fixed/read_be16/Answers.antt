@@ -6,4 +6,4 @@ use Rattle.codec.proofs.fixed.read_be16.Goals as goal
 
 pub returns : goal.returns
 unfolding number_at
-returns c = rw add-zero (omega (arith, c.pair.ensures))
+returns c = rw add-zero (omega (arith, c.from_be_bytes.ensures))

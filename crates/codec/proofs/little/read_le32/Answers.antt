@@ -6,4 +6,4 @@ use Rattle.codec.proofs.little.read_le32.Goals as goal
 
 pub returns : goal.returns
 unfolding little_at
-returns c = rw add-zero (omega (arith, c.join.ensures))
+returns c = rw add-zero (omega (arith, c.from_le_bytes.ensures))
