@@ -44,15 +44,9 @@ pub(crate) fn piece_in(
     let stop = part.end;
     let from = begins(lists, lengths, k as usize);
     let to = from + lengths[k as usize] as usize;
-    if let Some(piece) = pieces::scanned_at(
-        &lists[from..to],
-        index,
-        place,
-        part.from,
-        stop,
-        block,
-    ) {
+    let list = &lists[from..to];
+    if let Some(piece) = pieces::scanned_at(list, index, place, part.from, stop, block) {
         return piece;
     }
-    pieces::resolved_at(&lists[from..to], index, place, part.from, stop, block)
+    pieces::resolved_at(list, index, place, part.from, stop, block)
 }
