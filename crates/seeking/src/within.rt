@@ -1,7 +1,7 @@
 // The view of a list, no longer than a row has room for.
-ghost use Rattle.std.specs.Prelude.{◌≡◌, length};
+ghost use Rattle.std.specs.Prelude.{length};
 ghost use Rattle.seeking.specs.Load.{load_outcome};
-ghost use Rattle.seeking.specs.Inner.{RoomFor, segments_in, Within};
+ghost use Rattle.seeking.specs.Inner.{RoomFor, Within};
 
 use outcomes::Refusal;
 use slices::RECORD;

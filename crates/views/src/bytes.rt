@@ -1,12 +1,12 @@
 // The record of a run as bytes: what the list has of it is copied, field by field, with a read before each write. So the compiler makes
 // one store of each field.
-ghost use Rattle.std.specs.Prelude.{◌≡◌, true, cond, ℕ, suc, ◌+◌, ◌*◌, ◌<◌, ◌≤◌, length};
+ghost use Rattle.std.specs.Prelude.{◌≡◌, true, cond, ◌+◌, ◌*◌, ◌<◌, ◌≤◌, length};
 ghost use Rattle.codec.specs.All.{All};
 ghost use Rattle.codec.specs.Splice.{splice};
 ghost use Rattle.slices.specs.Cover.{cover};
 ghost use Rattle.slices.specs.Limits.{record_size};
 ghost use Rattle.slices.specs.Passes.{Passes};
-ghost use Rattle.slices.specs.Record.{record_at, records, count, encode};
+ghost use Rattle.slices.specs.Record.{record_at, records, encode};
 ghost use Rattle.resolve.specs.Resolved.{OnTop};
 ghost use Rattle.views.specs.View.{as_record};
 ghost use Rattle.resolve.specs.Tops.{size_at, off_at};

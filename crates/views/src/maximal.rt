@@ -19,13 +19,13 @@ use slices::Source;
 fn is_nothing(a: Source) -> bool
     ensures { result ≡ is_nothing a }
 {
-    if let Source::Nothing = a { true } else { false }
+    matches!(a, Source::Nothing)
 }
 
 fn is_zero(a: Source) -> bool
     ensures { result ≡ next a source.Zero }
 {
-    if let Source::Zero = a { true } else { false }
+    matches!(a, Source::Zero)
 }
 
 // Whether a byte of a slice goes on with a run whose first source, d positions before, is a.

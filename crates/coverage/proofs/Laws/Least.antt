@@ -39,10 +39,6 @@ pub least_is : (t : ℕ → Bool) (n q : ℕ) → q ≤ n → ((p : ℕ) → p <
 unfolding least
 least_is t n q a none some = from_is t 0 n q (omega arith, omega arith, λ p x y. none p y, λ x. some (omega arith))
 
-pub least_most : (t : ℕ → Bool) (n : ℕ) → least t n ≤ n
-unfolding least
-least_most t n = omega (arith, (from_has t 0 n).1)
-
 pub least_true : (t : ℕ → Bool) (n : ℕ) → least t n < n → t (least t n) ≡ true
 unfolding least
 least_true t n h = (from_has t 0 n).3 (omega arith)

@@ -1,4 +1,4 @@
--- `coverage::first_not_once` meets its contract. The invariant: the pieces that begin before `low` fill the places up to `cur`. Assumes nothing.
+-- `coverage::first_not_once` meets its contract. Assumes nothing.
 use mathlib.Core.Path.{refl}
 use native.Mathlib.Omega.{arith}
 use Rattle.coverage.proofs.Laws.Swept.{swept_none, swept_crowded, swept_all, swept_stop, swept_more, keys_lie}
@@ -8,30 +8,11 @@ use Rattle.coverage.proofs.first_not_once.Goals as goal
 pub loop-low-init : goal.loop-low-init
 loop-low-init c = (omega arith, refl, refl, refl, swept_none _)
 
-pub collect-window-requires : goal.collect-window-requires
-collect-window-requires c =
-    let inv = c.loop-low.invariant in
-    let room = c.requires.keys_nonzero in
-    (c.loop-low-test.true, omega (arith, room.0, inv.1), omega (arith, room.1, inv.1))
-
 pub returns-then-high-low : goal.returns-then-high-low
 returns-then-high-low c =
     let found = c.collect-window.ensures in
     let crowd = found.crowded (omega (arith, c.if-high-low.true, found.behind)) in
     swept_crowded _ _ _ _ c.loop-low.invariant.4 c.loop-low-test.true (crowd_held _ _ _ c.requires.all crowd)
-
-pub sort_whole-requires : goal.sort_whole-requires
-sort_whole-requires c =
-    let inv = c.loop-low.invariant in
-    let room = c.requires.keys_nonzero in
-    let l = c.collect-window.auto.keys in
-    let count = c.collect-window.ensures.room in
-    record {
-      m_bound = omega (arith, count, l, room.1, inv.1);
-      m_in_bounds = count;
-      m_in_bounds_2 = omega (arith, count, l, room.2, inv.1, inv.2);
-      m_in_bounds_3 = omega (arith, count, l, room.3, inv.1, inv.3);
-    }
 
 pub chain-cur-requires : goal.chain-cur-requires
 chain-cur-requires c =
@@ -48,9 +29,6 @@ returns-then-cur-high c =
     let found = c.collect-window.ensures in
     swept_stop _ _ c.requires.all c.requires.n_bound _ _ _ _ (found.collected c.if-high-low.false) _ _ c.loop-low.invariant.4 found.behind c.chain-cur.ensures
     (omega arith) found.inside
-
-pub loop-low-smaller : goal.loop-low-smaller
-loop-low-smaller c = omega (arith, c.if-high-low.false, c.loop-low-test.true)
 
 pub loop-low-preserved : goal.loop-low-preserved
 loop-low-preserved c =

@@ -1,4 +1,4 @@
--- `joined::adds_up` meets its contract. The invariant: what is left, and the lengths so far, are the bytes. Assumes nothing.
+-- `joined::adds_up` meets its contract. Assumes nothing.
 use mathlib.Core.Path.{sym}
 use native.Mathlib.Omega.{arith}
 use native.Mathlib.Numerals.{add-one}

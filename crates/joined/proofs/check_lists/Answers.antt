@@ -1,4 +1,4 @@
--- `joined::check_lists` meets its contract. The invariant: the lists so far are accepted, so the rest decides. Assumes nothing.
+-- `joined::check_lists` meets its contract. Assumes nothing.
 use Prim.Native.Nat.{◌+◌, ◌≤◌}
 use mathlib.Core.Path.{refl, sym, ◌∙◌}
 use native.Mathlib.Omega.{arith}

@@ -48,10 +48,6 @@ pub slice_bounds-put_view-end : goal.slice_bounds-put_view-end
 slice_bounds-put_view-end c =
     simp length-take (omega (arith, (wrote (goal.at.slice_bounds-put_view-end c).In-Ok).first.counted, room (goal.at.slice_bounds-put_view-end c).In-Ok, c.view.auto.out))
 
-pub put_view-requires : goal.put_view-requires
-put_view-requires c =
-    record { view_len_bound = simp length-take (omega (arith, (wrote (goal.at.put_view-requires c).In-Ok).first.counted, room (goal.at.put_view-requires c).In-Ok, c.blank-view.ensures)); text_room_in_bounds = omega arith }
-
 pub returns-in-Err : goal.returns-in-Err
 unfolding chunk
 returns-in-Err c =

@@ -1,10 +1,9 @@
 -- A row that is filled record by record. Assumes nothing.
-use Prim.Native.Nat.{ℕ, suc, ◌+◌, ◌<◌, ◌≤◌}
-use native.Mathlib.Omega.{arith}
+use Prim.Native.Nat.{ℕ, suc, ◌+◌, ◌<◌}
 use native.Mathlib.Numerals.{add-one}
 use mathlib.Core.Path.{◌≡◌, refl, sym, ap, ◌∙◌}
 use mathlib.Core.List.{List, [], ◌∷◌, ◌++◌, append_assoc}
-use lib.ListN.{length, get_or, drop, set, length-append, length-drop}
+use lib.ListN.{length, get_or, drop, set}
 use lib.Seq.{drop-cons, set_at}
 use Rattle.codec.specs.Groups.{groups_from}
 use Rattle.codec.proofs.Laws.Groups.{length-groups}
@@ -23,10 +22,6 @@ module _ (bs : List ℕ) (row : List Record) where
   pub filled_start : filled bs row 0 ≡ row
   unfolding filled records_from groups_from
   filled_start = refl
-
-  pub length-filled : (i : ℕ) → i ≤ length row → length (filled bs row i) ≡ length row
-  unfolding filled
-  length-filled i h = omega (arith, length-append (records_from bs 0 i) (drop i row), length_from bs i, length-drop i row)
 
   -- record i is put in its place
   pub filled_more : (i : ℕ) → i < length row → set (filled bs row i) i (record_at bs i) ≡ filled bs row (i + 1)

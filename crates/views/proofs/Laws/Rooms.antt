@@ -1,5 +1,5 @@
 -- Room for so many records. Assumes nothing.
-use Prim.Native.Nat.{ℕ, ◌+◌, ◌/◌, ◌<◌, ◌≤◌}
+use Prim.Native.Nat.{ℕ, ◌/◌, ◌<◌, ◌≤◌}
 use native.Mathlib.Omega.{arith}
 use native.Mathlib.Nat.{mul-div_cancel}
 use mathlib.Core.Path.{◌≡◌, refl, sym, ap, ◌∙◌}
@@ -8,7 +8,7 @@ use lib.ListN.{length}
 use mathlib.Core.Bool.{Bool, true, false}
 use borrow.Author.Tests.{le-ltb, ltb-false}
 use Rattle.codec.specs.Splice.{splice}
-use Rattle.slices.specs.Limits.{chunk, max_records, record_size}
+use Rattle.slices.specs.Limits.{chunk, record_size}
 use Rattle.outcomes.specs.Answers.{Answers}
 use Rattle.slices.specs.Record.{records, encode_all}
 use Rattle.outcomes.proofs.Laws.Outcome.{short_refused, short_done}
@@ -23,13 +23,6 @@ use Rattle.views.specs.Calls.{max_tidied}
 use Rattle.views.specs.Inner.{view_from, too_long, Roomy, runs_outcome}
 use Rattle.views.proofs.Laws.Segments.{view_few}
 use Rattle.views.proofs.Laws.Calls.{runs_11, runs_accepted}
-
--- two marks and two tops a record
-pub fits : (n k : ℕ) → n ≤ k → (n + n + 1 < k + k + 2) × (n + n < k + k + 1)
-fits n k h = (omega arith, omega arith)
-
-pub few : (n k : ℕ) → n ≤ k → k ≤ max_records → n ≤ max_records
-few n k h l = omega arith
 
 -- fewer are not too many either
 pub short_less : (all : Bool) (m n : ℕ) → too_long all m ≡ false → n ≤ m → too_long all n ≡ false

@@ -1,4 +1,4 @@
--- `coverage::chain::chain` meets its contract. The invariant: the first keys in order fill the places up to q. Assumes nothing.
+-- `coverage::chain::chain` meets its contract. Assumes nothing.
 use Prim.Native.Nat.{◌<◌}
 use native.Mathlib.Omega.{arith}
 use lib.ListN.{length-take}

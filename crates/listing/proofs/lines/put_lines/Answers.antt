@@ -1,4 +1,4 @@
--- `listing::lines::put_lines` meets its contract. The invariant: the lines of the first i records are put. Assumes nothing.
+-- `listing::lines::put_lines` meets its contract. Assumes nothing.
 use Prim.Native.Nat.{◌/◌}
 use native.Mathlib.Omega.{arith}
 use native.Mathlib.Nat.{add-zero}

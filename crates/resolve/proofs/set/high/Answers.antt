@@ -13,10 +13,5 @@ high_of w a b =
     let e : 63 - (63 - count_trailing_zeros 64 w) ≡ count_trailing_zeros 64 w = omega (arith, t.1) in
     record { within = omega arith; one = ap (bit w) e ∙ t.0; above = λ c l h. low_below 64 w (63 - c) (omega arith) }
 
-pub overflow_sub-result : goal.overflow_sub-result
-overflow_sub-result c =
-    let t = low_is 64 c.args.w c.requires c.ranges.w.fits in
-    omega (arith, t.1)
-
 pub returns : goal.returns
 returns c = high_of c.args.w c.requires c.ranges.w.fits

@@ -5,9 +5,8 @@ use mathlib.Core.Path.{◌≡◌, refl, ◌∙◌}
 use lib.ListN.{length, length-set}
 use Rattle.slices.specs.Limits.{chunk}
 use Rattle.resolve.proofs.Laws.Set.{empty_summed, empty_has}
-use Rattle.resolve.proofs.Laws.Turn.{turn_start, turned, paid, further}
+use Rattle.resolve.proofs.Laws.Turn.{turn_start, turned, paid}
 use Rattle.resolve.proofs.Laws.Sweep.{top_most}
-use mathlib.Core.Logic.{⊎_elim}
 use Rattle.resolve.proofs.sweep.sweep.Goals as goal
 use Rattle.resolve.proofs.sweep.sweep.Goals.{After-settle-highest, At-loop-q}
 
@@ -22,24 +21,15 @@ pay c =
     let h = paid _ _ _ _ c.requires.sorted c.requires.by_index _ _ _ _ _ _ c.loop-q.invariant.3 c.loop-q-test.true _ _ _ _ _ _ c.begin-started.ensures.begun c.begin-started.ensures.next c.settle-highest.ensures.settled c.settle-highest.ensures.topped in
     omega (arith, h, c.begin-started.ensures.begun.inside)
 
-pub bounds-marks-0 : goal.bounds-marks-0
-bounds-marks-0 c = omega (arith, c.requires.n_in_bounds_2.0)
-
 pub loop-q-init : goal.loop-q-init
 loop-q-init c =
     (refl, refl, empty_summed, turn_start _ _ _ _ _ c.args.marks.now _ empty_has (omega (arith, c.requires.n_in_bounds_2.0)))
 
-pub begin-started-requires : goal.begin-started-requires
+pub begin-started-requires-clause-n_in_bounds : goal.begin-started-requires-clause-n_in_bounds
 unfolding chunk
-begin-started-requires c =
-    let l = c.loop-q.invariant in
-    record { n_in_bounds = (c.requires.n_in_bounds.0, c.requires.n_in_bounds.2, c.requires.n_in_bounds.3, l.3.begun, c.loop-q-test.true, c.requires.n_in_bounds.4); by_index = c.requires.sorted.within; summed = l.2 }
-
-pub settle-highest-requires : goal.settle-highest-requires
-unfolding chunk
-settle-highest-requires c =
-    let l = c.loop-q.invariant in
-    record { q_lt_chunk = c.loop-q-test.true; summed = c.begin-started.ensures.summed_2; by_index = λ v e. omega (arith, c.requires.n_in_bounds.1, ⊎_elim (λ f. (l.3.early v f).0) (λ f. f.0) (c.begin-started.ensures.begun.new v e)) }
+begin-started-requires-clause-n_in_bounds c =
+    let n = c.requires.n_in_bounds in
+    (n.0, n.2, n.3, c.loop-q.invariant.3.begun, c.loop-q-test.true, n.4)
 
 pub overflow_cast-highest : goal.overflow_cast-highest
 overflow_cast-highest c = record { fits = omega (arith, top_most _ _ _ _ _ c.settle-highest.ensures.topped) }
@@ -49,12 +39,6 @@ extend-m-requires c =
     let m = pay (goal.at.extend-m-requires c).After-settle-highest in
     (omega (arith, m, c.requires.n_in_bounds_2.0, same (goal.at.extend-m-requires c).At-loop-q), omega (arith, m, c.requires.n_in_bounds_2.1, c.loop-q.invariant.1))
 
-pub loop-q-smaller : goal.loop-q-smaller
-unfolding chunk
-loop-q-smaller c =
-    let l = c.loop-q.invariant in
-    omega (arith, further _ _ _ _ c.requires.sorted c.requires.by_index _ _ _ _ _ _ l.3 c.loop-q-test.true _ _ _ _ _ _ c.begin-started.ensures.begun c.begin-started.ensures.next c.settle-highest.ensures.settled c.settle-highest.ensures.topped _ c.lesser-q.ensures)
-
 pub loop-q-preserved : goal.loop-q-preserved
 unfolding chunk
 loop-q-preserved c =
@@ -62,15 +46,9 @@ loop-q-preserved c =
     let m = pay (goal.at.loop-q-preserved c).After-settle-highest in
     (c.extend-m.auto.marks ∙ l.0, c.extend-m.auto.tops ∙ l.1, c.settle-highest.ensures.summed_2, turned _ _ _ _ c.requires.sorted c.requires.by_index _ _ _ _ _ _ l.3 c.loop-q-test.true _ _ _ _ _ _ c.begin-started.ensures.begun c.begin-started.ensures.next c.settle-highest.ensures.settled c.settle-highest.ensures.topped _ c.lesser-q.ensures (omega (arith, m, c.requires.n_in_bounds_2.0, same (goal.at.loop-q-preserved c).At-loop-q)) (omega (arith, m, c.requires.n_in_bounds_2.1, l.1)) _ _ _ c.extend-m.ensures)
 
-pub shape_of-marks : goal.shape_of-marks
-shape_of-marks c = same (goal.at.shape_of-marks c).At-loop-q
-
-pub shape_of-tops : goal.shape_of-tops
-shape_of-tops c = c.loop-q.invariant.1
-
-pub returns : goal.returns
+pub returns-clause-swept : goal.returns-clause-swept
 unfolding chunk
-returns c =
+returns-clause-swept c =
     let t = c.loop-q.invariant.3 in
     let e : c.loop-q.q ≡ chunk = omega (arith, t.inside, c.loop-q-test.false) in
-    record { swept = rw e at t.swept; upper_bound = omega (arith, t.room, t.begun) }
+    rw e at t.swept

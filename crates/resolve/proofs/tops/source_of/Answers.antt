@@ -28,13 +28,12 @@ pub read_pos-requires : goal.read_pos-requires
 unfolding count
 read_pos-requires c = omega (arith, (covers c).0)
 
-pub overflow_sub-d : goal.overflow_sub-d
-overflow_sub-d c = omega (arith, (covers (goal.at.overflow_sub-d c).After-from-i).1, c.read_pos.ensures)
-
-pub given-requires : goal.given-requires
+pub given-requires-clause-record_size_in_bounds : goal.given-requires-clause-record_size_in_bounds
 unfolding count
-given-requires c =
-    record { record_size_in_bounds = omega (arith, (covers (goal.at.given-requires c).After-from-i).0); passes = records_at Passes _ c.requires.all _ (covers (goal.at.given-requires c).After-from-i).0; d_bound = omega (arith, (covers (goal.at.given-requires c).After-from-i).1, (covers (goal.at.given-requires c).After-from-i).2, c.read_pos.ensures) }
+given-requires-clause-record_size_in_bounds c = omega (arith, (covers (goal.at.given-requires-clause-record_size_in_bounds c).After-from-i).0)
+
+pub given-requires-clause-passes : goal.given-requires-clause-passes
+given-requires-clause-passes c = records_at Passes _ c.requires.all _ (covers (goal.at.given-requires-clause-passes c).After-from-i).0
 
 pub returns : goal.returns
 returns c =

@@ -1,4 +1,4 @@
--- `seeking::half::halve` meets its contract. The invariant: what is left of the search ends where the whole does. Assumes nothing.
+-- `seeking::half::halve` meets its contract. Assumes nothing.
 use Prim.Native.Nat.{◌<◌}
 use native.Mathlib.Omega.{arith}
 use native.Mathlib.Nat.{le_refl}

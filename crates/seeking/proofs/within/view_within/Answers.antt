@@ -1,6 +1,4 @@
 -- `seeking::within::view_within` meets its contract: the view is written into the room that both buffers have. Assumes nothing.
-use mathlib.Core.Path.{sym}
-use lib.Seq.{length-take-le}
 use Rattle.std.proofs.lemmas.Result.{err_from_is_err_and}
 use Rattle.codec.specs.All.{Bytes}
 use Rattle.codec.proofs.Laws.All.{all_bytes}
@@ -11,9 +9,6 @@ use Rattle.seeking.proofs.within.view_within.Goals.{After-shared_slice_known-1}
 -- the list's elements are bytes
 bytes : (c : After-shared_slice_known-1) → Bytes c.args.list.now
 bytes c = all_bytes c.args.list.now (λ i. (c.type_inv.list i).fits)
-
-pub slice_bounds-view-end-2 : goal.slice_bounds-view-end-2
-slice_bounds-view-end-2 c = sym (length-take-le _ _ c.room_for-room.ensures.within)
 
 pub returns : goal.returns
 returns c =

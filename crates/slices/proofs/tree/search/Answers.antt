@@ -1,10 +1,10 @@
--- `slices::tree::search` meets its contract. The invariant: the search comes to the entry s with `left` of the id left. Assumes nothing.
+-- `slices::tree::search` meets its contract. Assumes nothing.
 use Prim.Native.Nat.{suc, ◌-◌, ◌<◌}
 use native.Mathlib.Omega.{arith}
-use mathlib.Core.Path.{◌≡◌, sym, ◌∙◌}
+use mathlib.Core.Path.{◌≡◌, ◌∙◌}
 use lib.ListN.{get_or}
 use Rattle.slices.specs.Record.{count}
-use Rattle.slices.proofs.Laws.Tree.{way_root, way_on, depth_less}
+use Rattle.slices.proofs.Laws.Tree.{way_on, depth_less}
 use Rattle.slices.proofs.tree.search.Goals as goal
 use Rattle.slices.proofs.tree.search.Goals.{Else-entry-eq0}
 
@@ -19,46 +19,9 @@ in_tree c =
     let b = c.requires.room.tree.below c.loop-roots.s in
     omega (arith, c.if-entry-eq0.false)
 
-pub root_of-s-requires : goal.root_of-s-requires
-root_of-s-requires c = c.requires.room.some
-
-pub loop-roots-init : goal.loop-roots-init
-loop-roots-init c = let e = c.root_of-s.ensures in rw e.0 (way_root _ _ _ _ _ (omega (arith, e.0, e.1)))
-
-pub offset_bounds-table-s : goal.offset_bounds-table-s
-unfolding count
-offset_bounds-table-s c = omega (arith, c.loop-roots.invariant.inside, c.requires.room.room)
-
-pub bounds-table-s : goal.bounds-table-s
-unfolding count
-bounds-table-s c = omega (arith, c.loop-roots.invariant.inside, c.requires.room.room)
-
-pub returns-then-entry-eq0 : goal.returns-then-entry-eq0
-returns-then-entry-eq0 c =
-    record { left = c.loop-roots.left; way = c.loop-roots.invariant; free = sym c.from-entry.ensures ∙ c.if-entry-eq0.true }
-
-pub overflow_sub-node : goal.overflow_sub-node
-overflow_sub-node c = omega (arith, c.if-entry-eq0.false)
-
 pub read_id-requires : goal.read_id-requires
 unfolding count
 read_id-requires c = omega (arith, in_tree c)
-
-pub returns-then-read_id-id : goal.returns-then-read_id-id
-returns-then-read_id-id c =
-    record { s = c.loop-roots.s; left = c.loop-roots.left; way = c.loop-roots.invariant; entry = entry_is (goal.at.returns-then-read_id-id c).Else-entry-eq0; below = in_tree (goal.at.returns-then-read_id-id c).Else-entry-eq0; has = sym c.read_id.ensures ∙ c.if-read_id-id.true }
-
-pub overflow_mul-s : goal.overflow_mul-s
-unfolding count
-overflow_mul-s c = omega (arith, in_tree (goal.at.overflow_mul-s c).Else-entry-eq0)
-
-pub overflow_add-s : goal.overflow_add-s
-unfolding count
-overflow_add-s c = omega (arith, in_tree (goal.at.overflow_add-s c).Else-entry-eq0, c.requires.room.room)
-
-pub overflow_add-s-in-loop-roots : goal.overflow_add-s-in-loop-roots
-unfolding count
-overflow_add-s-in-loop-roots c = omega (arith, in_tree (goal.at.overflow_add-s-in-loop-roots c).Else-entry-eq0, c.requires.room.room)
 
 pub loop-roots-smaller : goal.loop-roots-smaller
 loop-roots-smaller c =

@@ -1,5 +1,4 @@
--- `slices::tree::search_with` meets its contract. The invariant: the tree has the first i records, and what is said of the list is said of its
--- records from i on. Assumes nothing.
+-- `slices::tree::search_with` meets its contract. Assumes nothing.
 use mathlib.Core.Path.{refl, ap, ◌∙◌}
 use mathlib.Core.Bool.{not}
 use Rattle.slices.specs.Record.{count}
@@ -9,9 +8,9 @@ use Rattle.slices.proofs.tree.search_with.Goals as goal
 pub loop-i-init : goal.loop-i-init
 loop-i-init c = (refl, c.requires, sizes_start _)
 
-pub enter-requires : goal.enter-requires
+pub enter-requires-clause-i_bound : goal.enter-requires-clause-i_bound
 unfolding count
-enter-requires c = record { i_bound = c.loop-i-test.true; room = c.loop-i.invariant.1 }
+enter-requires-clause-i_bound c = c.loop-i-test.true
 
 pub loop-i-preserved : goal.loop-i-preserved
 unfolding count
@@ -22,16 +21,10 @@ loop-i-preserved c =
       c.loop-i.invariant.2 ∙ sizes_next _ _ c.loop-i-test.true (e.says ∙ ap not c.if-not-enter.false),
     )
 
-pub shape_of-table-then-not-enter : goal.shape_of-table-then-not-enter
-shape_of-table-then-not-enter c = c.enter.auto.table ∙ c.loop-i.invariant.0
-
 pub returns-then-not-enter : goal.returns-then-not-enter
 unfolding count
 returns-then-not-enter c =
     other_here _ _ c.loop-i-test.true c.loop-i.invariant.2 (c.enter.ensures.says ∙ ap not c.if-not-enter.true)
-
-pub shape_of-table : goal.shape_of-table
-shape_of-table c = c.loop-i.invariant.0
 
 pub returns : goal.returns
 unfolding count

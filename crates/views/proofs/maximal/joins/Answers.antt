@@ -9,6 +9,3 @@ id_on-requires c = λ i e. (c.requires.on_top_2.covering i e).0
 pub returns-then-id_on-id : goal.returns-then-id_on-id
 returns-then-id_on-id c =
     sym (ids_part _ _ _ _ _ _ c.requires.on_top c.requires.on_top_2 (λ e. c.if-id_on-id.true (c.id_on.ensures ∙ e ∙ sym c.requires.p_lt_e.1)))
-
-pub returns : goal.returns
-returns c = c.goes_on.ensures ∙ rw (c.source_of-s.ensures, c.source_of-first.ensures)

@@ -1,5 +1,4 @@
--- `views::maximal::reach` meets its contract. The invariant: from p up to e the cover goes on, and e is the end of a segment, or `end`.
--- Assumes nothing.
+-- `views::maximal::reach` meets its contract. Assumes nothing.
 use Prim.Native.Nat.{◌+◌}
 use native.Mathlib.Omega.{arith}
 use mathlib.Core.Path.{refl}
@@ -20,27 +19,12 @@ on c =
     let i = c.loop-e.invariant in
     segment_next _ _ _ _ (ready_of c.args.r.now.ready).resolved _ _ _ i.1 c.requires.p_lt_end.1 i.2 c.loop-e-test.true
 
-pub offset_bounds-r-k : goal.offset_bounds-r-k
-offset_bounds-r-k c = omega (arith, c.requires.holds.inside, (ready_of c.args.r.now.ready).in_tops)
-
-pub bounds-r-k : goal.bounds-r-k
-bounds-r-k c = omega (arith, c.requires.holds.inside, (ready_of c.args.r.now.ready).in_tops)
-
 pub id_on-id-requires : goal.id_on-id-requires
 id_on-id-requires c = λ i e. (((ready_of c.args.r.now.ready).resolved.on_top _ c.requires.holds.inside).covering i e).0
-
-pub until-e-requires : goal.until-e-requires
-until-e-requires c = omega (arith, c.requires.holds.inside, (ready_of c.args.r.now.ready).in_marks)
 
 pub loop-e-init : goal.loop-e-init
 loop-e-init c =
     (segment_unbroken _ _ _ _ (ready_of c.args.r.now.ready).resolved _ _ _ _ c.requires.p_lt_end.0 c.requires.holds c.until-e.ensures, c.requires.holds.inside, c.until-e.ensures)
-
-pub overflow_add-segment : goal.overflow_add-segment
-overflow_add-segment c = omega (arith, (on c).inside, (ready_of c.args.r.now.ready).in_tops)
-
-pub offset_bounds-r-segment : goal.offset_bounds-r-segment
-offset_bounds-r-segment c = omega (arith, (on (goal.at.offset_bounds-r-segment c).In-loop-e).inside, (ready_of c.args.r.now.ready).in_tops)
 
 pub bounds-r-segment : goal.bounds-r-segment
 bounds-r-segment c = omega (arith, (on (goal.at.bounds-r-segment c).In-loop-e).inside, (ready_of c.args.r.now.ready).in_tops)

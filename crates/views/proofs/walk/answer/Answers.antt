@@ -1,5 +1,4 @@
 -- `views::walk::answer` meets its contract: each answer is that of its case. Assumes nothing.
-use mathlib.Core.Bool.{false≢true}
 use Rattle.views.proofs.Laws.Rooms.{roomy_fits, roomy_answers, counted_long, counted_short, counted_done}
 use Rattle.resolve.proofs.Laws.Ready.{ready_of}
 use Rattle.views.proofs.walk.answer.Goals as goal
@@ -11,10 +10,6 @@ walk_runs-requires c =
 pub returns-then-roomy : goal.returns-then-roomy
 returns-then-roomy c =
     roomy_answers _ _ _ _ _ _ _ (ready_of c.args.r.now.ready).resolved c.requires (c.roomy.ensures c.if-roomy.true) _ _ _ c.walk_runs.ensures.value c.walk_runs.ensures.out_after
-
-pub walk_runs-need-requires : goal.walk_runs-need-requires
-walk_runs-need-requires c =
-    record { end_le_chunk = c.requires; end_in_bounds = (λ t. absurd (false≢true t)) }
 
 pub returns-then-too_long : goal.returns-then-too_long
 returns-then-too_long c =

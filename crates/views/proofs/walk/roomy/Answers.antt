@@ -2,13 +2,9 @@
 use Prim.Native.Nat.{◌/◌}
 use native.Mathlib.Omega.{arith}
 use mathlib.Core.Path.{sym, ◌∙◌}
-use mathlib.Core.Bool.{false≢true}
 use borrow.Author.Tests.{leb-true}
 use Rattle.views.proofs.Laws.Rooms.{short_less}
 use Rattle.views.proofs.walk.roomy.Goals as goal
-
-pub returns-then-too_long : goal.returns-then-too_long
-returns-then-too_long c = λ e. absurd (false≢true e)
 
 pub returns : goal.returns
 returns c =

@@ -1,11 +1,9 @@
--- `views::walk::walk_runs` meets its contract. The invariant: the runs before p are written, or counted.
--- Assumes nothing.
+-- `views::walk::walk_runs` meets its contract. Assumes nothing.
 use Prim.Native.Nat.{◌+◌, zero-le}
 use native.Mathlib.Omega.{arith}
 use native.Mathlib.Nat.{zero-add}
 use mathlib.Core.Path.{refl, ◌∙◌}
 use lib.ListN.{get_or}
-use Rattle.slices.specs.Limits.{chunk}
 use Rattle.slices.specs.Record.{encode_all}
 use Rattle.resolve.specs.Resolved.{OnTop}
 use Rattle.resolve.proofs.Laws.Resolved.{resolved_at, resolved_front}
@@ -26,44 +24,21 @@ unfolding encode_all
 loop-p-init c =
     (filled_start _ _ _ _ _ _ _ _ _ zero-le (λ t. omega (arith, c.requires.end_in_bounds t)), (λ h. resolved_front _ _ _ _ _ (ready_of c.args.r.now.ready).resolved (omega (arith, h, c.requires.end_le_chunk))))
 
-pub offset_bounds-r-k : goal.offset_bounds-r-k
-offset_bounds-r-k c = omega (arith, (c.loop-p.invariant.1 c.loop-p-test.true).inside, (ready_of c.args.r.now.ready).in_tops)
-
 pub bounds-r-k : goal.bounds-r-k
 bounds-r-k c = omega (arith, (c.loop-p.invariant.1 c.loop-p-test.true).inside, (ready_of c.args.r.now.ready).in_tops)
-
-pub reach-run-requires : goal.reach-run-requires
-reach-run-requires c =
-    record { p_lt_end = (c.loop-p-test.true, c.requires.end_le_chunk); holds = c.loop-p.invariant.1 c.loop-p-test.true }
-
-pub overflow_sub-p : goal.overflow_sub-p
-overflow_sub-p c = omega (arith, c.reach-run.ensures.leads.some)
 
 pub put_if-requires : goal.put_if-requires
 put_if-requires c =
     record { all = (ready_of c.args.r.now.ready).pass; on_top = on_top (goal.at.put_if-requires c).In-loop-p; record_size_in_bounds = filled_room _ _ _ _ _ _ _ _ _ _ _ _ _ c.loop-p.invariant.0 c.reach-run.ensures.leads.some c.reach-run.ensures.leads.inside _ (view_from_more _ _ _ _ _ _ _ _ c.reach-run.ensures.leads (c.shown.ensures ∙ shown_wanted _ _ _ _ (on_top (goal.at.put_if-requires c).In-loop-p)) c.if-shown.true refl) }
-
-pub overflow_add-at : goal.overflow_add-at
-unfolding chunk
-overflow_add-at c = omega (arith, c.loop-p.invariant.0.few, c.loop-p.invariant.0.inside, c.requires.end_le_chunk)
-
-pub loop-p-smaller-then-shown : goal.loop-p-smaller-then-shown
-loop-p-smaller-then-shown c = omega (arith, c.reach-run.ensures.leads.some, c.reach-run.ensures.leads.inside)
 
 pub loop-p-preserved-then-shown : goal.loop-p-preserved-then-shown
 loop-p-preserved-then-shown c =
     let v = view_from_more _ _ _ _ _ _ _ _ c.reach-run.ensures.leads (c.shown.ensures ∙ shown_wanted _ _ _ _ (on_top (goal.at.loop-p-preserved-then-shown c).In-loop-p)) c.if-shown.true refl in
     (filled_more _ _ _ _ _ _ _ _ _ _ _ _ _ c.loop-p.invariant.0 c.reach-run.ensures.leads.some c.reach-run.ensures.leads.inside _ v _ c.put_if.ensures, c.reach-run.ensures.holds_2)
 
-pub loop-p-smaller : goal.loop-p-smaller
-loop-p-smaller c = omega (arith, c.reach-run.ensures.leads.some, c.reach-run.ensures.leads.inside)
-
 pub loop-p-preserved : goal.loop-p-preserved
 loop-p-preserved c =
     (filled_less _ _ _ _ _ _ _ _ _ _ _ _ _ c.loop-p.invariant.0 c.reach-run.ensures.leads.some c.reach-run.ensures.leads.inside (view_from_less _ _ _ _ _ _ _ c.reach-run.ensures.leads (c.shown.ensures ∙ shown_wanted _ _ _ _ (on_top (goal.at.loop-p-preserved c).In-loop-p)) c.if-shown.false), c.reach-run.ensures.holds_2)
-
-pub shape_of-out : goal.shape_of-out
-shape_of-out c = c.loop-p.invariant.0.puts.same
 
 pub returns : goal.returns
 unfolding encode_all
