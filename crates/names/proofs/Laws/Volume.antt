@@ -1,6 +1,6 @@
 -- Laws of volume names: where one ends in a text, and which texts are one. Assumes nothing.
 use mathlib.Core.Path.{◌≡◌, refl, sym, ap, ◌∙◌}
-use mathlib.Core.Bool.{Bool, true, false, cond, ◌&&◌, and-eq-true_iff}
+use mathlib.Core.Bool.{Bool, true, false, cond, ◌&&◌, ◌||◌, and-eq-true_iff}
 use mathlib.Core.List.{List, [], ◌∷◌, ◌++◌}
 use Prim.Native.Nat.{ℕ, suc, ◌+◌, ◌≤◌, ◌<◌, min}
 use native.Mathlib.Omega.{arith}
@@ -58,6 +58,11 @@ run_all (b ∷ volume) = go (run_all volume) (volume_byte b) refl
         → volume_byte b && volume_bytes volume ≡ eqb (cond (volume_byte b) (suc (volume_run volume)) 0) (suc (length volume))
     go ih true e = rw e (ih ∙ sym (eqb-suc-suc (volume_run volume) (length volume)))
     go ih false e = rw e (sym (eqb-zero-suc (length volume)))
+
+-- a test without a second half
+pub or_none : (t : Bool) → t ≡ t || false
+or_none true = refl
+or_none false = refl
 
 -- what a volume name is
 pub record Right (volume : List ℕ) : Type 0 where
