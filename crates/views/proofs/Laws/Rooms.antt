@@ -1,5 +1,5 @@
 -- Room for so many records. Assumes nothing.
-use Prim.Native.Nat.{ℕ, ◌/◌, ◌<◌, ◌≤◌}
+use Prim.Native.Nat.{ℕ, ◌+◌, ◌/◌, ◌<◌, ◌≤◌}
 use native.Mathlib.Omega.{arith}
 use native.Mathlib.Nat.{mul-div_cancel}
 use mathlib.Core.Path.{◌≡◌, refl, sym, ap, ◌∙◌}
@@ -23,6 +23,10 @@ use Rattle.views.specs.Calls.{max_tidied}
 use Rattle.views.specs.Inner.{view_from, too_long, Roomy, runs_outcome}
 use Rattle.views.proofs.Laws.Segments.{view_few}
 use Rattle.views.proofs.Laws.Calls.{runs_11, runs_accepted}
+
+-- two marks and two tops a record
+pub fits : (n k : ℕ) → n ≤ k → (n + n + 1 < k + k + 2) × (n + n < k + k + 1)
+fits n k h = (omega arith, omega arith)
 
 -- fewer are not too many either
 pub short_less : (all : Bool) (m n : ℕ) → too_long all m ≡ false → n ≤ m → too_long all n ≡ false
