@@ -12,7 +12,7 @@ use crate::{pairs, width};
 pub const DIGITS: usize = 20;
 
 // Puts a number below 100 into a buffer.
-fn put_few(out: &mut [u8], at: usize, n: u64, table: &Pairs)
+fn put_few(out: &mut [u8], at: usize, n: u64, table: Pairs)
     requires { (n < 100) × (at + length (decimal n) ≤ length out.old) }
     ensures { out.new ≡ splice out.old at (decimal n) }
 {
@@ -24,7 +24,7 @@ fn put_few(out: &mut [u8], at: usize, n: u64, table: &Pairs)
 }
 
 // Puts a number below 10,000 into a buffer, where it ends at `end`.
-fn put_rest(out: &mut [u8], at: usize, end: usize, n: u64, table: &Pairs)
+fn put_rest(out: &mut [u8], at: usize, end: usize, n: u64, table: Pairs)
     requires { (n < 10000) × (end ≡ at + length (decimal n)) × (end ≤ length out.old) }
     ensures { out.new ≡ splice out.old at (decimal n) }
 {
@@ -39,7 +39,7 @@ fn put_rest(out: &mut [u8], at: usize, end: usize, n: u64, table: &Pairs)
 
 // Puts n, which has so many digits, into a buffer, and answers the place after it: four digits a turn, from the last. A turn divides twice,
 // and what is left is divided once if it has more than two digits: once for each two digits.
-pub fn put_digits(out: &mut [u8], at: usize, n: u64, width: usize, table: &Pairs) -> usize
+pub fn put_digits(out: &mut [u8], at: usize, n: u64, width: usize, table: Pairs) -> usize
     requires { (width ≡ length (decimal n)) × (at + width ≤ length out.old) }
     ensures { Puts out.old at (decimal n) width result out.new }
 {
@@ -56,7 +56,7 @@ pub fn put_digits(out: &mut [u8], at: usize, n: u64, width: usize, table: &Pairs
 }
 
 // Puts the two digits of n, below 100, at three places of a buffer, each behind the one before.
-fn put_pair_thrice(out: &mut [u8], a: usize, b: usize, c: usize, n: u64, table: &Pairs)
+fn put_pair_thrice(out: &mut [u8], a: usize, b: usize, c: usize, n: u64, table: Pairs)
     requires { (n < 100) × (a + 2 ≤ b) × (b + 2 ≤ c) × (c + 2 ≤ length out.old) }
     ensures { out.new ≡ splice (splice (splice out.old c (pair n)) b (pair n)) a (pair n) }
 {
@@ -66,7 +66,7 @@ fn put_pair_thrice(out: &mut [u8], a: usize, b: usize, c: usize, n: u64, table: 
 }
 
 // Puts n, which has so many digits, at three places of a buffer, each behind the one before: it is divided once for all three.
-pub fn put_thrice(out: &mut [u8], a: usize, b: usize, c: usize, n: u64, width: usize, table: &Pairs)
+pub fn put_thrice(out: &mut [u8], a: usize, b: usize, c: usize, n: u64, width: usize, table: Pairs)
     requires { (width ≡ length (decimal n)) × (a + width ≤ b) × (b + width ≤ c) × (c + width ≤ length out.old) }
     ensures { out.new ≡ splice (splice (splice out.old c (decimal n)) b (decimal n)) a (decimal n) }
 {
@@ -88,7 +88,8 @@ pub fn put_decimal(out: &mut [u8], at: usize, n: u64) -> usize
     requires { at + max_digits ≤ length out.old }
     ensures { (result ≡ at + length (decimal n)) × (result ≤ at + max_digits) × (out.new ≡ splice out.old at (decimal n)) }
 {
-    let table = pairs::table();
+    let digits = pairs::table();
+    let table = Pairs { digits: &digits };
     let width = width::digits(n);
-    put_digits(out, at, n, width, &table)
+    put_digits(out, at, n, width, table)
 }

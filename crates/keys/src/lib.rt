@@ -14,6 +14,7 @@ ghost use Rattle.keys.specs.Limits.{tkv_size};
 ghost use Rattle.keys.specs.Inner.{key_of, redis_length};
 ghost use Rattle.keys.specs.Keys.{redis_key, redis_form, read_redis, write_redis, tkv_key, tkv_shape, read_tkv, write_tkv, chunk_answer};
 
+use codec::pairs::Pairs;
 use codec::scan::read_decimal;
 use codec::{decimal, fixed, little, pairs, width};
 use outcomes::{Kind, Refusal};
@@ -32,10 +33,11 @@ fn put_redis(out: &mut [u8], inode: u64, index: u64, i: usize, j: usize) -> usiz
     requires { (i ≡ length (decimal inode)) × (j ≡ length (decimal index)) × (redis_length i j ≤ length out.old) }
     ensures { Puts out.old 0 (redis_key inode index) (redis_length i j) result out.new }
 {
-    let table = pairs::table();
+    let digits = pairs::table();
+    let table = Pairs { digits: &digits };
     let a = text::put_word(out, 0, b"c");
-    let b = text::put_number_word(out, a, inode, i, &table, b"_");
-    decimal::put_digits(out, b, index, j, &table)
+    let b = text::put_number_word(out, a, inode, i, table, b"_");
+    decimal::put_digits(out, b, index, j, table)
 }
 
 // Writes the Redis key of a chunk.

@@ -74,7 +74,7 @@ pub(crate) fn put(
     i: usize,
     b: usize,
     s: usize,
-    table: &Pairs,
+    table: Pairs,
 ) -> usize
     requires { Widths id block size i b s × (at + length (object_name id block size) ≤ length out.old) }
     ensures { Puts out.old at (object_name id block size) (length (object_name id block size)) result out.new }

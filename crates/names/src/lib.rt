@@ -13,6 +13,7 @@ ghost use Rattle.texts.specs.Inner.{read_by};
 ghost use Rattle.names.specs.Inner.{Widths, name_of};
 ghost use Rattle.names.specs.Names.{read_object, object_answer, write_object, full_scan, read_full, full_answer, volume_part, write_full, full_name};
 
+use codec::pairs::Pairs;
 use codec::{pairs, width};
 use outcomes::{Kind, Refusal};
 use texts::{scan, text};
@@ -39,8 +40,9 @@ pub fn write_object_name(id: u64, block: u64, size: u64, out: &mut [u8]) -> Resu
     if out.len() < n {
         return Err(Refusal::from(Kind::ShortBuffer));
     }
-    let table = pairs::table();
-    Ok(block::put(out, 0, id, block, size, i, b, s, &table))
+    let digits = pairs::table();
+    let table = Pairs { digits: &digits };
+    Ok(block::put(out, 0, id, block, size, i, b, s, table))
 }
 
 // The object that a short name names.
@@ -64,10 +66,11 @@ fn put_full(
     requires { Widths id block size i b s × (length (full_name volume.now id block size) ≤ length out.old) }
     ensures { Puts out.old 0 (full_name volume.now id block size) (length (full_name volume.now id block size)) result out.new }
 {
-    let table = pairs::table();
+    let digits = pairs::table();
+    let table = Pairs { digits: &digits };
     let slash = text::put_word(out, 0, volume);
     let at = text::put_word(out, slash, b"/");
-    block::put(out, at, id, block, size, i, b, s, &table)
+    block::put(out, at, id, block, size, i, b, s, table)
 }
 
 // Writes the full name of an object: its volume's name, a slash and its short name.

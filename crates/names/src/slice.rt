@@ -21,7 +21,7 @@ pub(crate) fn thousandth(width: usize) -> usize
 }
 
 // Puts a slice of at most six digits, whose millions are 0, one number after the other.
-fn put_short(out: &mut [u8], at: usize, id: u64, width: usize, table: &Pairs) -> usize
+fn put_short(out: &mut [u8], at: usize, id: u64, width: usize, table: Pairs) -> usize
     requires { (width ≤ 6) × (width ≡ length (decimal id)) × (at + length (slice_path id) ≤ length out.old) }
     ensures { Puts out.old at (slice_path id) (length (slice_path id)) result out.new }
 {
@@ -33,7 +33,7 @@ fn put_short(out: &mut [u8], at: usize, id: u64, width: usize, table: &Pairs) ->
 
 // Puts the six digits that follow a slice's millions: all at `id`, and the first four at `thousands`. The fourth is one too many there, for two
 // digits are moved at a time; the slash is stored in its place.
-fn put_tails(out: &mut [u8], thousands: usize, id: usize, tail: u64, table: &Pairs)
+fn put_tails(out: &mut [u8], thousands: usize, id: usize, tail: u64, table: Pairs)
     requires { (tail < 1000000) × (thousands + 4 ≤ id) × (id + 6 ≤ length out.old) }
     ensures { out.new ≡ splice (splice out.old id (pair (tail / 10000) ++ four (tail % 10000))) thousands (four (tail / 100)) }
 {
@@ -49,7 +49,7 @@ fn put_tails(out: &mut [u8], thousands: usize, id: usize, tail: u64, table: &Pai
 }
 
 // Puts a slice of more than six digits: its millions are the first digits of all three numbers, and go to all three places at once.
-fn put_long(out: &mut [u8], at: usize, id: u64, width: usize, table: &Pairs) -> usize
+fn put_long(out: &mut [u8], at: usize, id: u64, width: usize, table: Pairs) -> usize
     requires { (6 < width) × (width ≡ length (decimal id)) × (at + length (slice_path id) ≤ length out.old) }
     ensures { Puts out.old at (slice_path id) (length (slice_path id)) result out.new }
 {
@@ -65,7 +65,7 @@ fn put_long(out: &mut [u8], at: usize, id: u64, width: usize, table: &Pairs) -> 
 }
 
 // Puts a slice into a buffer as it stands in names: its millions, its thousands and its id.
-pub(crate) fn put(out: &mut [u8], at: usize, id: u64, width: usize, table: &Pairs) -> usize
+pub(crate) fn put(out: &mut [u8], at: usize, id: u64, width: usize, table: Pairs) -> usize
     requires { (width ≡ length (decimal id)) × (at + length (slice_path id) ≤ length out.old) }
     ensures { Puts out.old at (slice_path id) (length (slice_path id)) result out.new }
 {

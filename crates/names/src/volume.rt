@@ -21,9 +21,12 @@ fn is_volume_byte(b: u8) -> bool
 pub(crate) fn run(text: &[u8]) -> usize
     ensures { (result ≡ volume_run text.now) × (result ≤ length text.now) }
 {
-    text.iter()
-        .take_while(|byte| is_volume_byte(**byte))
-        .count()
+    for i in 0..text.len() {
+        if !is_volume_byte(text[i]) {
+            return i;
+        }
+    }
+    text.len()
 }
 
 // The place behind the volume name at the front of a text, or the place at which the reading gives up.

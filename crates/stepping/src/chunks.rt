@@ -20,7 +20,11 @@ fn begins(lists: &[u8], lengths: &[u64], k: usize) -> usize
     requires { (total lengths.now ≡ length lists.now) × (k < length lengths.now) }
     ensures { Behind lists.now lengths.now k result }
 {
-    lengths[..k].iter().sum::<u64>() as usize
+    let mut at = 0;
+    for i in 0..k {
+        at += lengths[i] as usize;
+    }
+    at
 }
 
 // The piece that starts at position p, counted from the first chunk's beginning, and ends with its chunk, or at `end`.

@@ -20,7 +20,7 @@ pub fn put_number_word(
     at: usize,
     n: u64,
     width: usize,
-    table: &Pairs,
+    table: Pairs,
     word: &[u8],
 ) -> usize
     requires { (width ≡ length (decimal n)) × (at + (width + length word.now) ≤ length out.old) }

@@ -1,10 +1,9 @@
--- How many digits a number has: by the powers of ten that it lies between, and of its whole thousandth. Assumes nothing.
-use mathlib.Core.Path.{◌≡◌, refl, sym, ap, ◌∙◌}
+-- How many digits a number has: by comparing it with powers of ten, and of its whole thousandth. Assumes nothing.
+use mathlib.Core.Path.{◌≡◌, sym, ap, ◌∙◌}
 use mathlib.Core.List.{List, [], ◌∷◌, ◌++◌}
-use Prim.Native.Nat.{ℕ, zero, suc, ◌+◌, ◌-◌, ◌/◌, ◌%◌, ◌^◌, ◌*◌, ◌≤◌, ◌<◌, max}
+use Prim.Native.Nat.{ℕ, zero, suc, ◌+◌, ◌-◌, ◌/◌, ◌%◌, ◌≤◌, ◌<◌, max}
 use native.Mathlib.Omega.{arith}
 use native.Mathlib.Decide.{dec_lt}
-use native.Mathlib.Nat.{pow-suc}
 use lib.ListN.{length, length-append}
 use Rattle.codec.specs.Decimal.{decimal}
 use Rattle.codec.proofs.Laws.Decimal.{tenfold, length-within, decimal_ind, decimal_digit, decimal_more, decimal_some}
@@ -29,16 +28,6 @@ length_beyond = decimal_ind (λ n l. (k : ℕ) → tenfold k ≤ n → k < lengt
 -- a number from a power of ten on, and below the next
 pub decimal_width : (k n : ℕ) → tenfold k ≤ n → n < tenfold (suc k) → suc k ≡ length (decimal n)
 decimal_width k n low high = omega (arith, length_beyond n k low, length-within n k high)
-
-tenfold_is : (k : ℕ) → tenfold k ≡ 10 ^ k
-unfolding tenfold
-tenfold_is zero = refl
-tenfold_is (suc k) = rw (pow-suc, tenfold_is k)
-
--- a number from a power of ten on, and below ten of it
-pub power_width : (k n : ℕ) → 10 ^ k ≤ n → n < 10 * 10 ^ k → k + 1 ≡ length (decimal n)
-unfolding tenfold
-power_width k n low high = omega (arith, tenfold_is k, decimal_width k n (rw (tenfold_is k) low) (omega (arith, tenfold_is k)))
 
 -- of the tenth, all digits but the last, and one where there is no other
 tenth_width : (n : ℕ) → length (decimal (n / 10)) ≡ max 1 (length (decimal n) - 1)

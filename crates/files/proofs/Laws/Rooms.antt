@@ -12,6 +12,7 @@ use Rattle.slices.specs.Limits.{record_size, max_records}
 use Rattle.slices.specs.Record.{count}
 use Rattle.joined.specs.Lists.{parts}
 use Rattle.files.specs.Inner.{Room, Resolvable, Fits}
+use Rattle.resolve.specs.declared.room.Room as code
 
 -- room that is as long as before
 pub room_kept : {n : ℕ} {marks tops pos ends order spare : List ℕ} → Room n marks tops pos ends order spare → {marks' tops' pos' ends' order' spare' : List ℕ}
@@ -51,6 +52,15 @@ module _ (n : ℕ) (marks tops pos ends order spare : List ℕ) (r : Room n mark
   -- lists that have each as many at most
   pub room_each : max_records ≤ n → (ls : List (List ℕ)) → All Accepts ls → All (Resolvable marks tops pos ends order spare) ls
   room_each h ls a = all_map Accepts (Resolvable marks tops pos ends order spare) (λ l p. (p, room_fewer (count l) (omega (arith, p.few)))) ls a
+
+-- in a room of the code there is room for each list that fits
+pub fits_resolvable : (r : code.Room) (l : List ℕ) → Fits r.records l → Resolvable r.marks.now r.tops.now r.pos.now r.ends.now r.order.now r.spare.now l
+fits_resolvable r l f =
+    let a = r.segments_fit in
+    let b = r.records_fit in
+    let whole : Room r.records r.marks.now r.tops.now r.pos.now r.ends.now r.order.now r.spare.now =
+        record { marks_fit = a.1; tops_fit = a.2; pos_fit = b.0; ends_fit = b.1; order_fit = b.2; spare_fit = b.3 } in
+    (f.0, room_fewer r.records r.marks.now r.tops.now r.pos.now r.ends.now r.order.now r.spare.now whole (count l) f.1)
 
 -- and without their room
 pub all_accepted : (marks tops pos ends order spare : List ℕ) (ls : List (List ℕ)) → All (Resolvable marks tops pos ends order spare) ls → All Accepts ls

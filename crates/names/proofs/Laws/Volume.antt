@@ -6,8 +6,8 @@ use Prim.Native.Nat.{ℕ, suc, ◌+◌, ◌≤◌, ◌<◌, min}
 use native.Mathlib.Omega.{arith}
 use borrow.Author.Tests.{le-leb, lt-leb, leb-true}
 use lib.Dec.{leb, eqb, eqb-suc-suc, eqb-zero-suc}
-use lib.ListN.{length, take}
-use Rattle.std.specs.List.{prefix_len}
+use lib.ListN.{length, take, drop, get_or}
+use lib.Seq.{drop-cons}
 use Rattle.std.specs.Prelude.{Ok, Err}
 use Rattle.names.specs.Limits.{max_volume}
 use Rattle.names.specs.Volume.{volume_byte, volume_bytes, volume_allowed, volume_run, volume_at}
@@ -21,14 +21,6 @@ volume_long text h = let e : min (volume_run text) max_volume ≡ max_volume = o
 
 pub volume_right : (text : List ℕ) → 1 ≤ volume_run text → volume_run text ≤ max_volume → Ok (volume_run text) ≡ volume_at text
 volume_right text h k = simp (le-leb 1 (volume_run text) h, le-leb (volume_run text) max_volume k)
-
--- a run is the text's beginning of such bytes
-pub run_prefix : (text : List ℕ) → volume_run text ≡ prefix_len volume_byte text
-unfolding volume_run
-run_prefix [] = refl
-run_prefix (b ∷ text) =
-    let e : suc (volume_run text) ≡ 1 + prefix_len volume_byte text = omega (arith, run_prefix text) in
-    rw e
 
 -- the volume name ends at the first byte that is none of its kind
 pub run_writes : (volume rest : List ℕ) → volume_bytes volume ≡ true → volume_run (volume ++ 47 ∷ rest) ≡ length volume
@@ -63,6 +55,16 @@ run_all (b ∷ volume) = go (run_all volume) (volume_byte b) refl
 pub or_none : (t : Bool) → t ≡ t || false
 or_none true = refl
 or_none false = refl
+
+-- one byte more of a run
+module _ (text : List ℕ) (i : ℕ) (h : i < length text) where
+  pub run_stops : volume_byte (get_or text i 0) ≡ false → i + volume_run (drop i text) ≡ i
+  unfolding volume_run
+  run_stops e = rw (drop-cons text i 0 h, e) (omega arith)
+
+  pub run_goes : volume_byte (get_or text i 0) ≡ true → i + volume_run (drop i text) ≡ suc i + volume_run (drop (suc i) text)
+  unfolding volume_run
+  run_goes e = rw (drop-cons text i 0 h, e) (omega arith)
 
 -- what a volume name is
 pub record Right (volume : List ℕ) : Type 0 where

@@ -1,10 +1,9 @@
 -- Where list k stands in the bytes of all lists. Assumes nothing.
-use Prim.Native.Nat.{ℕ, zero, suc, ◌+◌, ◌-◌, ◌*◌, ◌/◌, ◌%◌, ◌<◌, ◌≤◌}
+use Prim.Native.Nat.{ℕ, ◌+◌, ◌-◌, ◌*◌, ◌/◌, ◌%◌, ◌<◌, ◌≤◌}
 use native.Mathlib.Omega.{arith}
-use mathlib.Core.Path.{◌≡◌, refl, sym, ◌∙◌}
-use mathlib.Core.List.{List, [], ◌∷◌}
+use mathlib.Core.Path.{◌≡◌, sym}
+use mathlib.Core.List.{List, []}
 use lib.ListN.{length, take, drop, get_or}
-use Rattle.std.specs.List.{fold, sum}
 use Rattle.codec.specs.All.{All}
 use Rattle.slices.specs.Accepts.{Accepts}
 use Rattle.slices.specs.Limits.{chunk}
@@ -15,17 +14,6 @@ use Rattle.joined.proofs.Laws.Numbered.{gone_list, all_at}
 use Rattle.stepping.specs.Inner.{PieceFrom, Behind}
 use Rattle.files.specs.File.{part_from, part_end}
 use Rattle.plans.specs.declared.Piece.{Piece}
-
--- the first k lengths added up, and the rest
-pub sum_before : (from k : ℕ) (ns : List ℕ) → fold (λ a n. a + n) from (take k ns) + total (drop k ns) ≡ from + total ns
-unfolding total
-sum_before from zero ns = refl
-sum_before from (suc k) [] = refl
-sum_before from (suc k) (n ∷ ns) = sum_before (from + n) k ns ∙ omega arith
-
--- so the bytes of k lists end at their sum
-pub gone_sum : (ns bs : List ℕ) (k : ℕ) → total ns ≡ length bs → k < length ns → Gone ns bs (sum (take k ns)) k
-gone_sum ns bs k h l = record { within = omega arith; left = sum_before 0 k ns ∙ omega arith }
 
 -- where k lists are gone by, the next stands
 pub gone_behind : (ns bs : List ℕ) (at k : ℕ) → total ns ≡ length bs → Gone ns bs at k → k < length ns → Behind bs ns k at

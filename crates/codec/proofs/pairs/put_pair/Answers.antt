@@ -13,5 +13,5 @@ bounds-out-at-2 c = simp length-set (omega arith)
 pub returns : goal.returns
 returns c =
     let a = c.args in
-    let t = c.table.invariant in
+    let t = c.args.table.table in
     splice_two a.out.now a.at _ _ c.requires.1 ∙ (λ i. splice a.out.now a.at (t.tens a.n c.requires.0 i ∷ t.ones a.n c.requires.0 i ∷ []))

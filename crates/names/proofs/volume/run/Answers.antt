@@ -1,22 +1,27 @@
--- `names::volume::run` meets its contract: the run is as long as the text's beginning of such bytes. Assumes nothing.
-use Rattle.std.proofs.Common.{rules}
-use Rattle.std.specs.List.{prefix_len}
-use Rattle.std.proofs.lemmas.Iterator.{YieldsList-from_slice}
-use Rattle.std.proofs.lemmas.Iterator.Consumers.{count_from_yields_List}
-use Rattle.std.proofs.lemmas.Iterator.Search.{YieldsList-from_take_while}
-use Rattle.std.proofs.lemmas.List.Folds.{length-prefix_len}
-use Rattle.std.proofs.lemmas.List.Sums.{prefix_len-le-length}
-use borrow.Author.Tests.{tests}
-use mathlib.Core.Path.{◌≡◌, sym, ◌∙◌}
-use Rattle.names.specs.Volume.{volume_byte}
-use Rattle.names.proofs.Laws.Volume.{run_prefix}
+-- `names::volume::run` meets its contract. The invariant: the run is what was counted and the run of the rest. Assumes nothing.
+use lib.ListN.{drop_of_length-le}
+use Rattle.names.proofs.Laws.Volume.{run_stops, run_goes}
+use Rattle.names.specs.Volume.{volume_run}
+use native.Mathlib.Numerals.{add-one}
+use native.Mathlib.Omega.{arith}
+use mathlib.Core.Path.{sym, ◌∙◌}
 use Rattle.names.proofs.volume.run.Goals as goal
 
+pub loop-i-init : goal.loop-i-init
+loop-i-init c = omega arith
+
+pub returns-then-not-is_volume_byte : goal.returns-then-not-is_volume_byte
+returns-then-not-is_volume_byte c =
+    let a = c.args in
+    (sym (c.loop-i.invariant.1 ∙ run_stops a.text.now c.loop-i.i c.loop-i-test.true (sym c.is_volume_byte.ensures ∙ c.if-not-is_volume_byte.true)), c.loop-i.invariant.0)
+
+pub loop-i-preserved : goal.loop-i-preserved
+loop-i-preserved c =
+    let a = c.args in
+    (omega arith, c.loop-i.invariant.1 ∙ run_goes a.text.now c.loop-i.i c.loop-i-test.true (sym c.is_volume_byte.ensures ∙ c.if-not-is_volume_byte.false) ∙ rw add-one)
+
 pub returns : goal.returns
+unfolding volume_run
 returns c =
-    let text = c.args.text.now in
-    let w = c.take_while.ensures in
-    let e : c.count.result ≡ prefix_len volume_byte text =
-    count_from_yields_List c.take_while.result _ c.count.ensures.ran (YieldsList-from_take_while _ volume_byte (YieldsList-from_slice text (cc)) w.closure w.done (λ x b q k. search (rules, tests)))
-    ∙ length-prefix_len volume_byte text in
-    (e ∙ sym (run_prefix text), rw e (prefix_len-le-length volume_byte text))
+    let a = c.args in
+    (sym (c.loop-i.invariant.1 ∙ rw (drop_of_length-le a.text.now c.loop-i-test.false) (omega (arith, c.loop-i.invariant.0, c.loop-i-test.false))), omega arith)
