@@ -59,7 +59,7 @@ fits_resolvable r l f =
     let a = r.segments_fit in
     let b = r.records_fit in
     let whole : Room r.records r.marks.now r.tops.now r.pos.now r.ends.now r.order.now r.spare.now =
-        record { marks_fit = a.1; tops_fit = a.2; pos_fit = b.0; ends_fit = b.1; order_fit = b.2; spare_fit = b.3 } in
+    record { marks_fit = a.1; tops_fit = a.2; pos_fit = b.0; ends_fit = b.1; order_fit = b.2; spare_fit = b.3 } in
     (f.0, room_fewer r.records r.marks.now r.tops.now r.pos.now r.ends.now r.order.now r.spare.now whole (count l) f.1)
 
 -- and without their room
