@@ -28,6 +28,13 @@ room_kept r a b c d e f =
       spare_fit = omega (arith, r.spare_fit);
     }
 
+-- a room of the code is room for as many records as it says
+pub room_of : (r : code.Room) → Room r.records r.marks.now r.tops.now r.pos.now r.ends.now r.order.now r.spare.now
+room_of r =
+    let a = r.segments_fit in
+    let b = r.records_fit in
+    record { marks_fit = a.1; tops_fit = a.2; pos_fit = b.0; ends_fit = b.1; order_fit = b.2; spare_fit = b.3 }
+
 module _ (n : ℕ) (marks tops pos ends order spare : List ℕ) (r : Room n marks tops pos ends order spare) where
   -- fewer records have room too
   room_fewer : (m : ℕ) → m ≤ n → Room m marks tops pos ends order spare
@@ -56,11 +63,7 @@ module _ (n : ℕ) (marks tops pos ends order spare : List ℕ) (r : Room n mark
 -- in a room of the code there is room for each list that fits
 pub fits_resolvable : (r : code.Room) (l : List ℕ) → Fits r.records l → Resolvable r.marks.now r.tops.now r.pos.now r.ends.now r.order.now r.spare.now l
 fits_resolvable r l f =
-    let a = r.segments_fit in
-    let b = r.records_fit in
-    let whole : Room r.records r.marks.now r.tops.now r.pos.now r.ends.now r.order.now r.spare.now =
-    record { marks_fit = a.1; tops_fit = a.2; pos_fit = b.0; ends_fit = b.1; order_fit = b.2; spare_fit = b.3 } in
-    (f.0, room_fewer r.records r.marks.now r.tops.now r.pos.now r.ends.now r.order.now r.spare.now whole (count l) f.1)
+    (f.0, room_fewer r.records r.marks.now r.tops.now r.pos.now r.ends.now r.order.now r.spare.now (room_of r) (count l) f.1)
 
 -- and without their room
 pub all_accepted : (marks tops pos ends order spare : List ℕ) (ls : List (List ℕ)) → All (Resolvable marks tops pos ends order spare) ls → All Accepts ls
