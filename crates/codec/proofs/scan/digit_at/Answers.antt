@@ -1,7 +1,8 @@
 -- `codec::scan::digit_at` meets its contract, case by case. Assumes nothing.
 use lib.Seq.{drop-cons}
 use lib.ListN.{drop_of_length-le}
-use mathlib.Core.Path.{sym, ◌∙◌}
+use mathlib.Core.Path.{sym, ap, ◌∙◌}
+use Prim.Native.Nat.{ℕ, ◌-◌}
 use Rattle.codec.specs.Decimal.{digit_of}
 use Rattle.codec.specs.Scan.{digit_at}
 use Rattle.codec.proofs.scan.digit_at.Goals as goal
@@ -20,4 +21,4 @@ pub returns : goal.returns
 unfolding digit_at digit_of
 returns c =
     let a = c.args in
-    rw (drop-cons a.text.now a.i 0 c.if-text-i.false, sym c.is_ascii_digit.ensures.value ∙ c.if-not-is_ascii_digit.false) c.from.ensures
+    rw (drop-cons a.text.now a.i 0 c.if-text-i.false, sym c.is_ascii_digit.ensures.value ∙ c.if-not-is_ascii_digit.false) (ap (λ (x : ℕ). x - 48) c.from.ensures)
